@@ -1,0 +1,7 @@
+pub mod Dim
+pub mod Cell
+pub mod Vertex
+pub mod State
+pub mod Grid
+pub mod Field
+pub mod Next
