@@ -1,0 +1,2 @@
+pub use Rattle.peano_keys.specs.Dim
+pub use Rattle.peano_keys.specs.Cell

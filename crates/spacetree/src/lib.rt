@@ -1,0 +1,8 @@
+//! Grids as sets of refined cells, fields as maps from leaves to states, and the plain evaluator.
+#![tactic(auto)]
+
+mod listed;
+mod shape;
+
+pub use listed::Listed;
+pub use shape::{Fill, Shape, Zone};
