@@ -2,7 +2,9 @@
 #![tactic(auto)]
 
 mod listed;
+mod row;
 mod shape;
 
 pub use listed::Listed;
+pub use row::Row;
 pub use shape::{Fill, Shape, Zone};

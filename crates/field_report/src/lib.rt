@@ -1,0 +1,6 @@
+//! The texts of a report: the field block of a printed step.
+#![tactic(auto)]
+
+mod block;
+
+pub use block::field_text;
