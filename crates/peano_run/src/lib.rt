@@ -1,0 +1,8 @@
+//! The top call: reads a file, takes its steps and writes the report.
+#![tactic(auto)]
+
+mod answer;
+mod text;
+
+pub use answer::{Answer, Outcome};
+pub use text::{FixedText, refusal_text};
