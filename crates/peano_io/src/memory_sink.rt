@@ -80,9 +80,10 @@ impl Sink for MemSink {
         ensures room { sink_room self.new ≡ sink_room self.old }
         ensures piece { sink_piece self.new ≡ sink_piece self.old }
         ensures calls { sink_calls self.new ≡ record {
-            failing = (sink_calls self.old).failing;
-            next = counted (sink_calls self.old).next;
-            faults = (if is_ok result then (sink_calls self.old).faults else counted (sink_calls self.old).faults) } }
+          failing = (sink_calls self.old).failing;
+          next = counted (sink_calls self.old).next;
+          faults = (if is_ok result then (sink_calls self.old).faults else counted (sink_calls self.old).faults);
+        } }
     {
         let room = self.room as usize - self.bytes.len();
         if self.calls.begin() || room == 0 {

@@ -95,9 +95,10 @@ impl Source for MemSource {
         ensures listed { IsErr result ↔ Contains (source_calls self.old).failing.items (source_calls self.old).next }
         ensures filled { IfOk result (λ count. count ≡ min (length buf.old) (length (source_left self.old))) }
         ensures calls { source_calls self.new ≡ record {
-            failing = (source_calls self.old).failing;
-            next = counted (source_calls self.old).next;
-            faults = (if is_ok result then (source_calls self.old).faults else counted (source_calls self.old).faults) } }
+          failing = (source_calls self.old).failing;
+          next = counted (source_calls self.old).next;
+          faults = (if is_ok result then (source_calls self.old).faults else counted (source_calls self.old).faults);
+        } }
     {
         if self.calls.begin() {
             self.calls.fail();

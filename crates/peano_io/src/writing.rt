@@ -1,5 +1,5 @@
 //! Writing all of some bytes into a sink.
-ghost use Rattle.std.specs.Prelude.{◌<◌, length, take, OnOk, IfErr};
+ghost use Rattle.std.specs.Prelude.{◌≡◌, ◌<◌, length, take, OnOk, IfErr};
 ghost use Rattle.std.specs.Io.KnownBytes.{Appends};
 ghost use Rattle.peano_io.specs.Causes.{HasCause};
 
@@ -17,6 +17,7 @@ pub fn write_whole<K: Sink>(sink: &mut K, bytes: &[u8]) -> Result<(), WriteFault
     ensures whole { OnOk result (Appends (K.taken sink.old) (K.taken sink.new) bytes.now) }
     ensures part { IfErr result (λ fault. Appends (K.taken sink.old) (K.taken sink.new) (take fault.written bytes.now)) }
     ensures written { IfErr result (λ fault. fault.written < length bytes.now) }
+    ensures empty { length bytes.now ≡ 0 → sink.new ≡ sink.old }
     ensures cause { HasCause (K.faults sink.old) (K.faults sink.new) result }
 {
     let mut written = 0;
