@@ -1,5 +1,5 @@
 -- What reading a source to its end takes from it. `None` stands for bytes that the source does not tell.
-use Rattle.std.specs.Prelude.{◌≡◌, ◌↔◌, ℕ, ◌+◌, ◌<◌, ◌≤◌, List, [], length, ⊤, Option, Some, None, Result, IsErrOf}
+use Rattle.std.specs.Prelude.{◌≡◌, ◌↔◌, ℕ, ◌+◌, ◌≤◌, List, [], length, ⊤, Option, Some, None, Result, IsErrOf}
 use Rattle.std.specs.Io.KnownBytes.{Consumes}
 use Rattle.peano_io.specs.declared.reading.ReadAllFault.{ReadAllFault}
 use Rattle.peano_io.specs.declared.reading.ReadAllFault.TheVariants.{TooLong}

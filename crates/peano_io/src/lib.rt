@@ -18,3 +18,6 @@ pub use sink::{Sink, WriteFailed};
 pub use source::{ReadFailed, Source};
 pub use standard::{StdSink, StdSource};
 pub use writing::{WriteFault, write_whole};
+
+#[cfg(test)]
+mod tests;

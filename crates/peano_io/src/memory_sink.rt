@@ -56,11 +56,11 @@ impl MemSink {
 }
 
 impl Sink for MemSink {
-    ghost use Rattle.std.specs.Prelude.{◌≡◌, ◌↔◌, ◌⊎◌, ◌≤◌, ◌<◌, ◌-◌, if◌then◌else◌, min, length, Some, IsErr, IfOk, Contains, is_ok};
+    ghost use Rattle.std.specs.Prelude.{◌≡◌, ◌↔◌, ◌⊎◌, ◌≤◌, ◌<◌, ◌-◌, min, length, Some, IsErr, IfOk, is_ok};
     ghost use Rattle.std.specs.Io.KnownBytes.{WriteAppends};
-    ghost use Rattle.peano_io.specs.Causes.{HasCause, counted};
+    ghost use Rattle.peano_io.specs.Causes.{HasCause};
     ghost use Rattle.peano_io.specs.Writing.{TakesSome};
-    ghost use Rattle.peano_io.specs.Memory.{sink_bytes, sink_room, sink_piece, sink_calls};
+    ghost use Rattle.peano_io.specs.Memory.{sink_bytes, sink_room, sink_piece, sink_calls, IsListed, after_call};
 
     ghost taken = { λ s. Some (sink_bytes s) };
 
@@ -73,17 +73,13 @@ impl Sink for MemSink {
         ensures cause { HasCause (sink_calls self.old).faults (sink_calls self.new).faults result }
 
         // It fails exactly at the listed calls and where no room is left, and else takes as much as it may.
-        ensures fails { IsErr result ↔ (Contains (sink_calls self.old).failing.items (sink_calls self.old).next
+        ensures fails { IsErr result ↔ (IsListed (sink_calls self.old)
             ⊎ (sink_room self.old ≤ length (sink_bytes self.old))) }
         ensures takes { IfOk result (λ count. count ≡ min (length piece.now)
             (min (sink_piece self.old) (sink_room self.old - length (sink_bytes self.old)))) }
+        ensures calls { sink_calls self.new ≡ after_call (sink_calls self.old) (is_ok result) }
         ensures room { sink_room self.new ≡ sink_room self.old }
         ensures piece { sink_piece self.new ≡ sink_piece self.old }
-        ensures calls { sink_calls self.new ≡ record {
-          failing = (sink_calls self.old).failing;
-          next = counted (sink_calls self.old).next;
-          faults = (if is_ok result then (sink_calls self.old).faults else counted (sink_calls self.old).faults);
-        } }
     {
         let room = self.room as usize - self.bytes.len();
         if self.calls.begin() || room == 0 {

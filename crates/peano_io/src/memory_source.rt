@@ -75,11 +75,11 @@ impl MemSource {
 }
 
 impl Source for MemSource {
-    ghost use Rattle.std.specs.Prelude.{◌≡◌, ◌↔◌, ◌<◌, if◌then◌else◌, min, length, Some, IsErr, IfOk, Contains, is_ok};
+    ghost use Rattle.std.specs.Prelude.{◌≡◌, ◌↔◌, ◌<◌, min, length, Some, IsErr, IfOk, is_ok};
     ghost use Rattle.std.specs.Io.{ReadsAtMost};
     ghost use Rattle.std.specs.Io.KnownBytes.{ReadConsumes};
-    ghost use Rattle.peano_io.specs.Causes.{HasCause, counted};
-    ghost use Rattle.peano_io.specs.Memory.{source_left, source_calls};
+    ghost use Rattle.peano_io.specs.Causes.{HasCause};
+    ghost use Rattle.peano_io.specs.Memory.{source_left, source_calls, IsListed, after_call};
 
     ghost left = { λ s. Some (source_left s) };
 
@@ -92,13 +92,9 @@ impl Source for MemSource {
         ensures cause { HasCause (source_calls self.old).faults (source_calls self.new).faults result }
 
         // It fails exactly at the listed calls, and else fills the buffer as far as there are bytes.
-        ensures listed { IsErr result ↔ Contains (source_calls self.old).failing.items (source_calls self.old).next }
+        ensures listed { IsErr result ↔ IsListed (source_calls self.old) }
         ensures filled { IfOk result (λ count. count ≡ min (length buf.old) (length (source_left self.old))) }
-        ensures calls { source_calls self.new ≡ record {
-          failing = (source_calls self.old).failing;
-          next = counted (source_calls self.old).next;
-          faults = (if is_ok result then (source_calls self.old).faults else counted (source_calls self.old).faults);
-        } }
+        ensures calls { source_calls self.new ≡ after_call (source_calls self.old) (is_ok result) }
     {
         if self.calls.begin() {
             self.calls.fail();

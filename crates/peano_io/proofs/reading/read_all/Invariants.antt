@@ -1,5 +1,5 @@
 -- So far `all` is what the source lost, at most `limit` bytes, and nothing failed. Each turn adds a byte.
-use Rattle.std.proofs.Common.{length, vec_len, ◌≡◌, ◌+◌, ◌-◌, ◌≤◌}
+use Rattle.std.proofs.Common.{length, vec_len, ◌≡◌, ◌-◌, ◌≤◌}
 use Rattle.std.specs.Io.KnownBytes.{Consumes}
 use Rattle.peano_io.proofs.reading.read_all.Given as goal
 

@@ -1,5 +1,5 @@
 -- A write takes the next bytes of what is left.
-use Rattle.std.proofs.Common.{arith, length-take, length-drop}
+use Rattle.std.proofs.Common.{arith}
 use Rattle.std.proofs.lemmas.Grind.{common_steps}
 use Rattle.peano_io.proofs.Known.{Appends-take}
 use Rattle.peano_io.proofs.writing.write_whole.Goals as goal
