@@ -1,6 +1,7 @@
 //! The real source and sink, over any reader and writer of std. An interrupted call counts as a fault, like every other
 //! error, and so does a write that took nothing.
 ghost use Rattle.std.specs.Prelude.{◌≡◌};
+ghost use Rattle.peano_io.specs.Standard.{source_reader, read_faults, sink_writer, write_faults};
 
 use crate::sink::{Sink, WriteFailed};
 use crate::source::{ReadFailed, Source};
@@ -8,7 +9,7 @@ use std::io::{Read, Write};
 
 /// A source over a reader. It tells the bytes left where the reader does; standard input does not.
 #[derive(Drop)]
-pub struct StdSource<R: Read> {
+pub struct StdSource<R> {
     reader: R,
     faults: u64,
 }
@@ -16,17 +17,17 @@ pub struct StdSource<R: Read> {
 impl<R: Read> StdSource<R> {
     /// A source over this reader that has not failed yet.
     pub fn new(reader: R) -> StdSource<R>
-        ensures left { ⟦<StdSource<R> as Source>⟧.left result ≡ R.remaining reader }
-        ensures faults { ⟦<StdSource<R> as Source>⟧.faults result ≡ 0 }
+        ensures reader { source_reader result ≡ reader }
+        ensures faults { read_faults result ≡ 0 }
     {
         StdSource { reader, faults: 0 }
     }
 }
 
 impl<R: Read> Source for StdSource<R> {
-    ghost left = { λ s. R.remaining s.reader };
+    ghost left = { λ s. R.remaining (source_reader s) };
 
-    ghost faults = { λ s. s.faults };
+    ghost faults = { read_faults };
 
     fn read(&mut self, buf: &mut [u8]) -> Result<usize, ReadFailed> {
         match self.reader.read(buf) {
@@ -41,7 +42,7 @@ impl<R: Read> Source for StdSource<R> {
 
 /// A sink over a writer. It tells the bytes taken where the writer does; standard output does not.
 #[derive(Drop)]
-pub struct StdSink<W: Write> {
+pub struct StdSink<W> {
     writer: W,
     faults: u64,
 }
@@ -49,17 +50,17 @@ pub struct StdSink<W: Write> {
 impl<W: Write> StdSink<W> {
     /// A sink over this writer that has not failed yet.
     pub fn new(writer: W) -> StdSink<W>
-        ensures taken { ⟦<StdSink<W> as Sink>⟧.taken result ≡ W.contents writer }
-        ensures faults { ⟦<StdSink<W> as Sink>⟧.faults result ≡ 0 }
+        ensures writer { sink_writer result ≡ writer }
+        ensures faults { write_faults result ≡ 0 }
     {
         StdSink { writer, faults: 0 }
     }
 }
 
 impl<W: Write> Sink for StdSink<W> {
-    ghost taken = { λ s. W.contents s.writer };
+    ghost taken = { λ s. W.contents (sink_writer s) };
 
-    ghost faults = { λ s. s.faults };
+    ghost faults = { write_faults };
 
     fn write(&mut self, piece: &[u8]) -> Result<usize, WriteFailed> {
         match self.writer.write(piece) {
