@@ -4,3 +4,6 @@
 mod block;
 
 pub use block::field_text;
+
+#[cfg(test)]
+mod tests;
