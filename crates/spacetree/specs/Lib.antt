@@ -1,2 +1,11 @@
 pub use Rattle.peano_keys.specs.Dim
 pub use Rattle.peano_keys.specs.Cell
+pub use Rattle.peano_keys.specs.State
+pub use Rattle.peano_keys.specs.Grid
+pub use Rattle.peano_keys.specs.Field
+pub use Rattle.solver_api.specs.Step
+pub mod Leaves
+pub mod Counts
+pub mod Fields
+pub mod Opening
+pub mod Evaluation
