@@ -1,7 +1,6 @@
 -- Fields over a grid, and their rows.
-use Rattle.std.specs.Prelude.{◌≡◌, ◌↔◌, ℕ, List, IsSome, IfSome}
-use Rattle.std.specs.List as list
-use Rattle.std.specs.FinMap as map
+use Rattle.std.specs.Prelude.{◌≡◌, ◌↔◌, ℕ, List, map, IsSome, IfSome}
+use Rattle.std.specs.FinMap as fin
 use Rattle.peano_keys.specs.declared.cell.CellKey.{CellKey}
 use Rattle.peano_keys.specs.declared.state.State.{State}
 use Rattle.peano_keys.specs.State.{count_of}
@@ -16,9 +15,9 @@ row_of e = record { key = e.0; value = e.1 }
 
 -- the rows of a field, in key order
 abbrev pub rows_of : States → List Row
-rows_of f = list.map row_of (map.entries f)
+rows_of f = map row_of (fin.entries f)
 
 -- a field on a grid: its keys are the leaves, and its states have so many values
 pub record IsFieldOn (parts : ℕ) (t : Spacetree) (f : States) : Type 0 where
-  pub leaves : (c : CellKey) → IsSome (map.get f c) ↔ IsLeafOf t c
-  pub counts : (c : CellKey) → IfSome (map.get f c) (λ s. count_of s ≡ parts)
+  pub leaves : (c : CellKey) → IsSome (fin.get f c) ↔ IsLeafOf t c
+  pub counts : (c : CellKey) → IfSome (fin.get f c) (λ s. count_of s ≡ parts)

@@ -6,6 +6,8 @@ pub use Rattle.peano_keys.specs.Field
 pub use Rattle.solver_api.specs.Step
 pub mod Leaves
 pub mod Counts
+pub mod Digits
 pub mod Fields
 pub mod Opening
 pub mod Evaluation
+pub mod Plane

@@ -1,5 +1,5 @@
 -- The grid and the field that a run opens with.
-use Rattle.std.specs.Prelude.{◌≡◌, ◌↔◌, ◌⊎◌, ℕ, pos, ◌+◌, ◌*◌, ◌^◌, ◌<◌, ◌≤◌, min, max, Bool, true, false, ◌&&◌, nat_lt, List, [], ◌∷◌, filter, replicate, slice_index, length, Any, All, unwrap_or}
+use Rattle.std.specs.Prelude.{◌≡◌, ◌↔◌, ◌⊎◌, ℕ, pos, ◌+◌, ◌*◌, ◌^◌, ◌<◌, ◌≤◌, min, max, Bool, true, false, ◌&&◌, nat_lt, List, [], ◌∷◌, filter, replicate, slice_index, length, Any, All, unwrap_or, Some, None}
 use Rattle.std.specs.FinMap as map
 use Rattle.peano_keys.specs.declared.dim.Dim.{Dim}
 use Rattle.peano_keys.specs.declared.dim.Dim.TheVariants.{Two, Three}
@@ -70,15 +70,17 @@ pub record OpensField (t : Spacetree) (fills : List Fill) (parts : ℕ) (f : Sta
   pub leaves : (c : CellKey) → IsLeafOf t c → map.get f c ≡ Some (opening_state t.dim fills parts c)
   pub others : (c : CellKey) → ¬ IsLeafOf t c → map.get f c ≡ None
 
--- a fill that the engine serves: its box is one of cells of a level up to 12, and its state has so many values
-pub record IsFill (dim : Dim) (parts : ℕ) (b : Fill) : Type 0 where
+-- the box of a fill is one that the engine serves: cells of a level up to 12, from before to on each axis
+pub record IsBox (b : Fill) : Type 0 where
   pub level : b.level ≤ 12
-  pub from_shape : length b.from ≡ 3
-  pub to_shape : length b.to ≡ 3
   pub first : slice_index b.to 0 ≤ 3 ^ b.level
-  pub first_order : slice_index b.from 0 < slice_index b.to 0
+  pub first_order : slice_index b.from 0 ≤ slice_index b.to 0
   pub second : slice_index b.to 1 ≤ 3 ^ b.level
-  pub second_order : slice_index b.from 1 < slice_index b.to 1
+  pub second_order : slice_index b.from 1 ≤ slice_index b.to 1
   pub third : slice_index b.to 2 ≤ 3 ^ b.level
   pub third_order : slice_index b.from 2 ≤ slice_index b.to 2
+
+-- and its state has so many values
+pub record IsFill (parts : ℕ) (b : Fill) : Type 0 where
+  pub box : IsBox b
   pub count : count_of b.value ≡ parts

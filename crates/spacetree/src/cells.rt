@@ -3,7 +3,7 @@ ghost use Rattle.std.specs.Prelude.{◌≡◌, ◌+◌, ◌≤◌, IfOk, OnOk, O
 ghost use Rattle.std.specs.FinSet as set;
 ghost use Rattle.std.specs.List.Sorted.{IsStrictlySortedBy};
 ghost use Rattle.peano_keys.specs.Cell.{key_cmp};
-ghost use Rattle.spacetree.specs.Leaves.{is_among};
+ghost use Rattle.spacetree.specs.Leaves.{ListsCells};
 
 use peano_keys::CellKey;
 use std::alloc::{AllocError, Global};
@@ -18,7 +18,6 @@ pub(crate) struct CellSet {
 
 impl Model for CellSet {
     ghost use Rattle.std.specs.FinSet as set;
-    ghost use Rattle.std.specs.BTreeSet.{keys};
     ghost use Rattle.peano_keys.specs.Cell.{coded_cell, key_cmp};
     ghost use Rattle.peano_keys.specs.Grid.{Cells};
 
@@ -26,7 +25,7 @@ impl Model for CellSet {
 
     ghost coded = { set.code coded_cell };
 
-    ghost view = { λ s. set.from_list {R = key_cmp} (keys s.keys) };
+    ghost view = { λ s. set.from_list {R = key_cmp} s.keys.keys };
 }
 
 // The cells of a set, in order.
@@ -68,8 +67,7 @@ impl CellSet {
 
     // The cells, in key order.
     pub(crate) fn cells(&self, alloc: Global) -> Result<Vec<CellKey>, AllocError>
-        ensures members { IfOk result (λ cells. (c : _) → is_among cells.items c ≡ set.contains self.now c) }
-        ensures order { IfOk result (λ cells. IsStrictlySortedBy key_cmp cells.items) }
+        ensures { IfOk result (λ cells. ListsCells self.now cells.items) }
     {
         in_order(alloc, &self.keys)
     }

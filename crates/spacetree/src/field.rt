@@ -1,7 +1,6 @@
 //! Fields: maps from leaves to states.
-ghost use Rattle.std.specs.Prelude.{◌≡◌, ◌≤◌, OnOk, OnErr, IfOk, All};
-ghost use Rattle.std.specs.FinMap as map;
-ghost use Rattle.std.specs.List as list;
+ghost use Rattle.std.specs.Prelude.{◌≡◌, ◌≤◌, map, OnOk, OnErr, IfOk, All};
+ghost use Rattle.std.specs.FinMap as fin;
 ghost use Rattle.std.specs.List.Sorted.{IsStrictlySortedBy};
 ghost use Rattle.peano_keys.specs.Cell.{key_cmp};
 ghost use Rattle.peano_keys.specs.Grid.{IsGrid};
@@ -38,8 +37,8 @@ impl Model for Field {
 
 // The rows of a map, in order.
 fn rows_in(alloc: Global, states: &BTreeMap<CellKey, State>) -> Result<Vec<Row>, AllocError>
-    ensures value { IfOk result (λ rows. rows.items ≡ list.map row_of states.now.entries) }
-    ensures order { IsStrictlySortedBy key_cmp (list.map (λ e. e.0) states.now.entries) }
+    ensures value { IfOk result (λ rows. rows.items ≡ map row_of states.now.entries) }
+    ensures order { IsStrictlySortedBy key_cmp (map (λ e. e.0) states.now.entries) }
 {
     states
         .iter()
@@ -53,7 +52,7 @@ fn rows_in(alloc: Global, states: &BTreeMap<CellKey, State>) -> Result<Vec<Row>,
 impl Field {
     // The field of no leaf.
     pub(crate) fn empty(alloc: Global) -> Field
-        ensures { result ≡ map.empty }
+        ensures { result ≡ fin.empty }
     {
         Field {
             states: BTreeMap::new(alloc),
@@ -70,28 +69,29 @@ impl Field {
         requires grid { IsGrid 12 grid.now }
         requires least { 1 ≤ parts }
         requires most { parts ≤ 4 }
-        requires fills { All (IsFill grid.now.dim parts) fills.now }
+        requires fills { All (IsFill parts) fills.now }
         ensures opening { IfOk result (λ field. OpensField grid.now fills.now parts field) }
         ensures field { IfOk result (λ field. IsFieldOn parts grid.now field) }
     {
-        let mut field = Field::empty(alloc);
+        let dim = grid.dim();
         let leaves = grid.leaves(alloc)?;
+        let mut field = Field::empty(alloc);
         for leaf in leaves.as_slice() {
-            field.set(*leaf, opening_state(grid.dim(), fills, parts, leaf))?;
+            field.set(*leaf, opening_state(dim, fills, parts, leaf))?;
         }
         Ok(field)
     }
 
     /// The state of a leaf, none where the key is no leaf of the field.
     pub fn get(&self, key: &CellKey) -> Option<State>
-        ensures { result ≡ map.get self.now key.now }
+        ensures { result ≡ fin.get self.now key.now }
     {
         self.states.get(key).copied()
     }
 
     /// How many leaves there are.
     pub fn len(&self) -> u64
-        ensures { result ≡ map.len self.now }
+        ensures { result ≡ fin.len self.now }
     {
         self.states.len() as u64
     }
@@ -105,7 +105,7 @@ impl Field {
 
     // Sets the state of a leaf.
     pub(crate) fn set(&mut self, key: CellKey, value: State) -> Result<(), AllocError>
-        ensures ok { OnOk result (self.new ≡ map.insert self.old key value) }
+        ensures ok { OnOk result (self.new ≡ fin.insert self.old key value) }
         ensures err { OnErr result (self.new ≡ self.old) }
     {
         self.states.insert(key, value)?;

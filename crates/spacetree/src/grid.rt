@@ -1,28 +1,23 @@
 //! Grids: sets of refined cells.
-ghost use Rattle.std.specs.Prelude.{◌≡◌, ◌≢◌, ◌≤◌, IfOk, [], Err};
+ghost use Rattle.std.specs.Prelude.{◌≡◌, ◌≢◌, ◌<◌, ◌≤◌, true, IfOk, OnOk, [], Err};
+ghost use Rattle.spacetree.specs.Digits.{HasLeavesOf, HasLeavesUnder, IsKept};
 ghost use Rattle.peano_keys.specs.declared.dim.Dim.{Dim};
 ghost use Rattle.peano_keys.specs.Cell.{IsCell};
 ghost use Rattle.peano_keys.specs.Grid.{IsGrid, has_cell, is_refined, is_leaf};
 ghost use Rattle.spacetree.specs.Counts.{cells_of, leaves_of};
-ghost use Rattle.spacetree.specs.Leaves.{ListsLeaves};
+ghost use Rattle.std.specs.FinSet as set;
+ghost use Rattle.solver_api.specs.Step.{IsLeafOf};
+ghost use Rattle.spacetree.specs.Leaves.{ListsCells, ListsLeaves};
 ghost use Rattle.spacetree.specs.Opening.{Opens};
 
+use crate::build::plane_below;
 use crate::cells::CellSet;
+use crate::fault::BuildFault;
 use crate::shape::Shape;
-use peano_keys::{CellKey, Dim, parent};
+use crate::digits::{fan, nth_digits};
+use peano_keys::{CellKey, Dim, child, parent};
 use std::alloc::{AllocError, Global};
 use std::marker::Model;
-use thiserror::Error;
-
-/// Why a grid was not built.
-#[derive(Clone, Copy, Debug, PartialEq, Eq, Error)]
-pub enum BuildFault {
-    /// The grid would have more than 200,000 cells.
-    #[error("more than 200000 cells")]
-    TooMany,
-    #[error("out of memory")]
-    NoMemory,
-}
 
 /// A grid: its dimension and its set of refined cells. It has at most 200,000 cells.
 #[derive(Drop)]
@@ -60,7 +55,7 @@ impl Grid {
         // Down to level 5 a plane never has too many cells.
         ensures fits { result ≢ Err BuildFault.TooMany }
     {
-        let refined = plane_below(alloc, shape.base).map_err(|_| BuildFault::NoMemory)?;
+        let refined = plane_below(alloc, shape.base)?;
         Ok(Grid {
             dim: Dim::Two,
             refined,
@@ -122,13 +117,55 @@ impl Grid {
         ensures { IfOk result (λ cells. ListsLeaves self.now cells.items) }
     {
         let mut found = CellSet::new(alloc);
-        let parents = self.refined.cells(alloc)?;
-        if parents.is_empty() {
-            found.insert(ROOT)?;
-        }
+        let root = CellKey {
+            level: 0,
+            x: [0, 0, 0],
+        };
+        self.add_leaf(&mut found, root)?;
+        let parents = self.refined_cells(alloc)?;
         for parent in parents.as_slice() {
             self.add_leaves(&mut found, *parent)?;
         }
         found.cells(alloc)
+    }
+
+    // The refined cells, in key order.
+    fn refined_cells(&self, alloc: Global) -> Result<Vec<CellKey>, AllocError>
+        ensures { IfOk result (λ cells. ListsCells self.now.refined cells.items) }
+    {
+        self.refined.cells(alloc)
+    }
+
+    // Adds the leaves among the children of a refined cell.
+    fn add_leaves(&self, found: &mut CellSet, parent: CellKey) -> Result<(), AllocError>
+        requires cell { IsCell self.now.dim parent }
+        requires level { parent.level < 12 }
+        requires refined { is_refined self.now parent ≡ true }
+        requires within { HasLeavesOf self.now found.old }
+        ensures within { OnOk result (HasLeavesOf self.now found.new) }
+        ensures kept { OnOk result (IsKept found.old found.new) }
+        ensures children { OnOk result (HasLeavesUnder self.now found.new parent) }
+    {
+        let dim = self.dim();
+        for n in 0..fan(dim) {
+            self.add_leaf(found, child(parent, nth_digits(dim, n)))?;
+        }
+        Ok(())
+    }
+
+    // Adds a cell of the grid where it is a leaf.
+    fn add_leaf(&self, found: &mut CellSet, key: CellKey) -> Result<(), AllocError>
+        requires cell { IsCell self.now.dim key }
+        requires there { has_cell self.now key ≡ true }
+        requires within { HasLeavesOf self.now found.old }
+        ensures within { OnOk result (HasLeavesOf self.now found.new) }
+        ensures kept { OnOk result (IsKept found.old found.new) }
+        ensures added { OnOk result (IsLeafOf self.now key → set.contains found.new key ≡ true) }
+    {
+        if self.is_refined(&key) {
+            return Ok(());
+        }
+        found.insert(key)?;
+        Ok(())
     }
 }
