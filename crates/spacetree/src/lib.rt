@@ -11,6 +11,7 @@ mod listed;
 mod opening;
 mod row;
 mod shape;
+mod side;
 
 pub use fault::{BuildFault, EvalFault};
 pub use field::Field;
@@ -18,3 +19,4 @@ pub use grid::Grid;
 pub use listed::Listed;
 pub use row::Row;
 pub use shape::{Fill, Shape, Zone};
+pub use side::sides;
