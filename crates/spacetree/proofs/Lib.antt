@@ -5,4 +5,6 @@ pub mod Children
 pub mod Givens
 pub mod Leaves
 pub mod Planes
+pub mod Values
+pub mod Steps
 pub mod Openings

@@ -48,7 +48,7 @@ plane_opens shape s stay has plane none = record {
     λ o. elim o.cause [
       | inl l ↦ has c record { cell = subst (λ d. IsCell d c) plane o.cell; level = l }
       | inr some ↦ absurd (no_zone (ZoneRefines shape.dim c) (subst (Any (ZoneRefines shape.dim c)) none some))
-    ]
+    ],
   );
 }
 

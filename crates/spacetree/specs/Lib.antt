@@ -3,6 +3,7 @@ pub use Rattle.peano_keys.specs.Cell
 pub use Rattle.peano_keys.specs.State
 pub use Rattle.peano_keys.specs.Grid
 pub use Rattle.peano_keys.specs.Field
+pub use Rattle.solver_api.specs.Parts
 pub use Rattle.solver_api.specs.Step
 pub mod Leaves
 pub mod Counts

@@ -12,9 +12,9 @@ ghost use Rattle.spacetree.specs.Opening.{Opens};
 
 use crate::build::plane_below;
 use crate::cells::CellSet;
+use crate::digits::{fan, nth_digits};
 use crate::fault::BuildFault;
 use crate::shape::Shape;
-use crate::digits::{fan, nth_digits};
 use peano_keys::{CellKey, Dim, child, parent};
 use std::alloc::{AllocError, Global};
 use std::marker::Model;

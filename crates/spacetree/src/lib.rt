@@ -4,6 +4,7 @@
 mod build;
 mod cells;
 mod digits;
+mod evaluation;
 mod fault;
 mod field;
 mod grid;
@@ -13,6 +14,7 @@ mod row;
 mod shape;
 mod side;
 
+pub use evaluation::evaluate;
 pub use fault::{BuildFault, EvalFault};
 pub use field::Field;
 pub use grid::Grid;
