@@ -1,5 +1,5 @@
 -- Maps that give each cell of a list its state, and no other cell one.
-use Rattle.std.proofs.Common.{◌+◌, ◌<◌, length, take, get_or, arith, ◌≡◌, ℕ, List, [], ◌∷◌, ◌++◌, Some, None, Option, Bool, true, false, ◌||◌, cond, refl, ap, sym, ◌∙◌, subst, IsSome, IfSome, ◌↔◌, is_some, unwrap_or}
+use Rattle.std.proofs.Common.{◌+◌, ◌<◌, length, take, get_or, ◌≡◌, ℕ, List, [], ◌∷◌, ◌++◌, Some, None, Option, Bool, true, false, ◌||◌, cond, refl, ap, sym, ◌∙◌, subst, IsSome, IfSome, is_some, unwrap_or}
 use Rattle.std.specs.FinMap as map
 use Rattle.std.specs.List.{list_any}
 use Rattle.std.specs.Ordering.{eq_by_cmp}

@@ -1,8 +1,7 @@
 -- The opening grid of a shape in the plane without zones.
-use Rattle.std.proofs.Common.{◌+◌, ◌-◌, ◌*◌, ◌^◌, ◌/◌, ◌<◌, ◌≤◌, arith, lit<, ◌≡◌, ℕ, List, [], ◌∷◌, true, refl, ap, sym, ◌∙◌, subst, ◌⊎◌, inl, inr, Any}
+use Rattle.std.proofs.Common.{◌+◌, ◌-◌, ◌*◌, ◌^◌, ◌<◌, ◌≤◌, arith, lit<, ◌≡◌, ℕ, [], refl, ap, sym, ◌∙◌, subst, inl, inr, Any}
 use Rattle.std.proofs.Math.Nat.{pow-le-pow_right}
 use Rattle.std.proofs.lemmas.Nat.{pow-add}
-use Rattle.std.specs.FinSet as set
 use Rattle.peano_keys.specs.declared.dim.Dim.{Dim}
 use Rattle.peano_keys.specs.declared.dim.Dim.TheVariants.{Two, Three}
 use Rattle.peano_keys.specs.declared.cell.CellKey.{CellKey}
@@ -10,8 +9,8 @@ use Rattle.peano_keys.specs.Cell.{IsCell, at, parent_of}
 use Rattle.peano_keys.specs.Grid.{Cells, Spacetree, IsGrid}
 use Rattle.spacetree.specs.declared.shape.Shape.{Shape}
 use Rattle.spacetree.specs.declared.shape.Zone.{Zone}
-use Rattle.spacetree.specs.Plane.{IsPlaneBelow, StayBelow, HasBelow}
-use Rattle.spacetree.specs.Opening.{Opens, OpensRefined, ZoneRefines}
+use Rattle.spacetree.specs.Plane.{StayBelow, HasBelow}
+use Rattle.spacetree.specs.Opening.{Opens, ZoneRefines}
 
 -- a level has three times the cells of the one above on an axis
 pub extent_step : (l : ℕ) → 0 < l → 3 ^ l ≡ 3 * 3 ^ (l - 1)

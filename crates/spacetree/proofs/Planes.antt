@@ -5,10 +5,9 @@ use Rattle.std.proofs.lemmas.Nat.{mul-pow, pow-add}
 use Rattle.std.specs.FinSet as set
 use Rattle.peano_keys.specs.declared.dim.Dim.TheVariants.{Two}
 use Rattle.peano_keys.specs.declared.cell.CellKey.{CellKey}
-use Rattle.peano_keys.specs.Cell.{IsCell, at, triple, key_cmp}
+use Rattle.peano_keys.specs.Cell.{IsCell, at, triple}
 use Rattle.peano_keys.specs.Grid.{Cells}
-use Rattle.spacetree.specs.Plane.{IsPlaneBelow, StayBelow, HasLevel, HasBelow}
-use Rattle.spacetree.specs.Digits.{IsKept}
+use Rattle.spacetree.specs.Plane.{IsPlaneBelow, StayBelow}
 use Rattle.spacetree.proofs.Children.{key_from_parts}
 use Rattle.spacetree.proofs.CellSets.{kept_by_insert, has_inserted, inserted_cases}
 

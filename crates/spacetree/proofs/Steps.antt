@@ -1,12 +1,11 @@
 -- A step on a grid that stays, the first leaf that fails, and steps after one another.
-use Rattle.std.proofs.Common.{zero, suc, ◌+◌, ◌<◌, ◌≤◌, length, take, get_or, arith, add-one, ◌≡◌, ℕ, List, [], ◌∷◌, Bool, true, false, ◌||◌, cond, refl, ap, sym, ◌∙◌, subst, ◌⊎◌, inl, inr, Option, Some, None, IsSome, IsNone, Result, Ok, Err, IsErrAnd, IfErr}
-use Rattle.std.specs.FinMap as map
+use Rattle.std.proofs.Common.{zero, suc, ◌+◌, ◌<◌, length, take, get_or, arith, add-one, ◌≡◌, ℕ, List, [], ◌∷◌, true, cond, refl, ap, sym, ◌∙◌, subst, inl, inr, Option, None, IsSome, IsNone, Result, Ok, Err, IsErrAnd, IfErr}
 use Rattle.std.specs.List.{AllByRecursion}
 use Rattle.std.specs.List.Sorted.{IsStrictlySortedBy}
-use Rattle.std.specs.Cmp.{Equal-is, tied_itself}
-use Rattle.std.specs.Ordering.{eq_by_cmp, ordering_reverse}
+use Rattle.std.specs.Cmp.{tied_itself}
+use Rattle.std.specs.Ordering.{eq_by_cmp}
 use Rattle.std.specs.declared.cmp.Ordering.{Ordering}
-use Rattle.std.specs.declared.cmp.Ordering.TheVariants.{Less, Equal, Greater}
+use Rattle.std.specs.declared.cmp.Ordering.TheVariants.{Less, Equal}
 use Rattle.std.proofs.lemmas.Bool.{or_cases, or_left, or_right}
 use Rattle.peano_keys.specs.declared.dim.Dim.{Dim}
 use Rattle.peano_keys.specs.declared.dim.Dim.TheVariants.{Two, Three}
@@ -15,9 +14,9 @@ use Rattle.peano_keys.specs.declared.state.State.{State}
 use Rattle.peano_keys.specs.declared.side.Mark.{Mark}
 use Rattle.peano_keys.specs.declared.side.Mark.TheVariants.{Keep, Refine, Coarsen}
 use Rattle.peano_keys.specs.Cell.{IsDigits, triple, child_of, parent_of, centre_child, key_cmp}
-use Rattle.peano_keys.specs.Grid.{Spacetree, is_refined, is_leaf}
+use Rattle.peano_keys.specs.Grid.{Spacetree, is_refined}
 use Rattle.peano_keys.specs.Field.{States}
-use Rattle.peano_keys.specs.Next.{IsNextGrid, Splits, Merges}
+use Rattle.peano_keys.specs.Next.{IsNextGrid, Merges}
 use Rattle.solver_api.specs.Step.{UpdateRule, MarkRule, IsLeafOf, IsStep, Overflows, marks_of, new_state, source_of}
 use Rattle.spacetree.specs.declared.fault.EvalFault.{EvalFault}
 use Rattle.spacetree.specs.declared.fault.EvalFault.TheVariants.{Overflow, NoMemory}
@@ -43,7 +42,7 @@ same_grid t marks keep = record {
   dim = refl;
   refined = λ c. (
     λ h. inr (h, λ (m : Merges t marks c). keep_coarsens _ (keep (child_of c (triple 0 0 0))) (m.marked (triple 0 0 0) (low_digits t.dim))),
-    λ s. elim s [ inl split ↦ absurd (keep_refines _ (keep c) split.marked) | inr stays ↦ stays.0 ]
+    λ s. elim s [ inl split ↦ absurd (keep_refines _ (keep c) split.marked) | inr stays ↦ stays.0 ],
   );
 }
 
@@ -70,22 +69,22 @@ not_both_ways a b h g = not_before_itself a (cells_total.trans a b a h g)
 after_all : (x : CellKey) (xs : List CellKey) (b : CellKey) → AllByRecursion (λ y. key_cmp x y ≡ Less) xs → is_among xs b ≡ true → key_cmp x b ≡ Less
 after_all x [] b all h = absurd (cc)
 after_all x (y ∷ ys) b all h = elim (or_cases (eq_by_cmp key_cmp b y) (is_among ys b) h) [
-    | inl e ↦ subst (λ (k : CellKey). key_cmp x k ≡ Less) (sym (same_key b y e)) all.0
-    | inr e ↦ after_all x ys b all.1 e
-  ]
+  | inl e ↦ subst (λ (k : CellKey). key_cmp x k ≡ Less) (sym (same_key b y e)) all.0
+  | inr e ↦ after_all x ys b all.1 e
+]
 
 -- a cell of a list in order that is before the cell at `i` is among the first `i`
 pub among_before : (xs : List CellKey) (i : ℕ) (d b : CellKey) → IsStrictlySortedBy key_cmp xs → i < length xs → is_among xs b ≡ true → key_cmp b (get_or xs i d) ≡ Less → is_among (take i xs) b ≡ true
 unfolding IsStrictlySortedBy
 among_before [] i d b sorted h there before = absurd (omega arith)
 among_before (x ∷ xs) zero d b sorted h there before = elim (or_cases (eq_by_cmp key_cmp b x) (is_among xs b) there) [
-    | inl e ↦ absurd (not_before_itself x (subst (λ (k : CellKey). key_cmp k x ≡ Less) (same_key b x e) before))
-    | inr e ↦ absurd (not_both_ways b x before (after_all x xs b sorted.0 e))
-  ]
+  | inl e ↦ absurd (not_before_itself x (subst (λ (k : CellKey). key_cmp k x ≡ Less) (same_key b x e) before))
+  | inr e ↦ absurd (not_both_ways b x before (after_all x xs b sorted.0 e))
+]
 among_before (x ∷ xs) (suc i) d b sorted h there before = elim (or_cases (eq_by_cmp key_cmp b x) (is_among xs b) there) [
-    | inl e ↦ or_left (eq_by_cmp key_cmp b x) (is_among (take i xs) b) e
-    | inr e ↦ or_right (eq_by_cmp key_cmp b x) (is_among (take i xs) b) (among_before xs i d b sorted.1 (omega arith) e before)
-  ]
+  | inl e ↦ or_left (eq_by_cmp key_cmp b x) (is_among (take i xs) b) e
+  | inr e ↦ or_right (eq_by_cmp key_cmp b x) (is_among (take i xs) b) (among_before xs i d b sorted.1 (omega arith) e before)
+]
 
 -- the first leaf that has no new state is the one at which the step fails
 pub fails_at : (updated : UpdateRule) (t : Spacetree) (f : States) (cells : List CellKey) (i : ℕ) (d : CellKey) → ListsLeaves t cells → i < length cells → ((q : CellKey) → is_among (take i cells) q ≡ true → IsSome (new_state updated t f q)) → None ≡ new_state updated t f (get_or cells i d) → Overflows updated t f (get_or cells i d)

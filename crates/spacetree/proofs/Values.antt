@@ -1,5 +1,5 @@
 -- How many values the states have that a cell sees.
-use Rattle.std.proofs.Common.{zero, suc, ◌+◌, ◌-◌, ◌*◌, ◌^◌, ◌<◌, ◌≤◌, arith, ◌≡◌, ℕ, List, Bool, true, false, ◌||◌, ◌==◌, cond, refl, ap, sym, ◌∙◌, subst, ◌⊎◌, inl, inr, Option, Some, None, IsSome, IfSome, is_some, unwrap_or, slice_index}
+use Rattle.std.proofs.Common.{zero, suc, ◌+◌, ◌*◌, ◌^◌, ◌<◌, arith, ◌≡◌, ℕ, List, Bool, true, false, ◌||◌, ◌==◌, cond, refl, ap, sym, ◌∙◌, Option, Some, None, IfSome, is_some, unwrap_or, slice_index}
 use Rattle.std.proofs.lemmas.Bool.{false≢true, or_parts}
 use Rattle.std.proofs.lemmas.Nat.{pow-add}
 use Rattle.std.specs.FinMap as map
@@ -7,11 +7,10 @@ use Rattle.peano_keys.specs.declared.dim.Dim.{Dim}
 use Rattle.peano_keys.specs.declared.dim.Dim.TheVariants.{Two, Three}
 use Rattle.peano_keys.specs.declared.cell.CellKey.{CellKey}
 use Rattle.peano_keys.specs.declared.state.State.{State}
-use Rattle.peano_keys.specs.declared.state.State.TheVariants.{Single}
 use Rattle.peano_keys.specs.State.{count_of}
 use Rattle.peano_keys.specs.Cell.{IsCell, IsDigits, at, parent_of, child_of, centre_child, centre_digits}
 use Rattle.peano_keys.specs.Grid.{Spacetree, IsGrid, is_refined, has_cell}
-use Rattle.peano_keys.specs.Field.{States, state_at, centre_state, value_of, covering_state}
+use Rattle.peano_keys.specs.Field.{States, state_at, centre_state, covering_state}
 use Rattle.solver_api.specs.Step.{IsLeafOf}
 use Rattle.spacetree.specs.Fields.{IsFieldOn}
 use Rattle.spacetree.proofs.Children.{third_digit}

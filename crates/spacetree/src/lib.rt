@@ -3,6 +3,7 @@
 
 mod build;
 mod cells;
+mod diffuse;
 mod digits;
 mod evaluation;
 mod fault;
@@ -13,7 +14,10 @@ mod opening;
 mod row;
 mod shape;
 mod side;
+#[cfg(test)]
+mod tests;
 
+pub use diffuse::evaluate_diffuse;
 pub use evaluation::evaluate;
 pub use fault::{BuildFault, EvalFault};
 pub use field::Field;

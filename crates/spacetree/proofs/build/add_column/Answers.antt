@@ -1,4 +1,4 @@
-use Rattle.std.proofs.Common.{arith, ◌≡◌, ◌≤◌, ◌+◌, ◌<◌, ◌^◌, ap, ◌∙◌, inl, inr, subst, sym, ◌⊎◌}
+use Rattle.std.proofs.Common.{arith, ◌+◌, ◌<◌, ◌^◌, ap, ◌∙◌, inl, inr, subst, sym}
 use Rattle.std.specs.FinSet as set
 use Rattle.peano_keys.specs.declared.cell.CellKey.{CellKey}
 use Rattle.peano_keys.specs.Grid.{Cells}

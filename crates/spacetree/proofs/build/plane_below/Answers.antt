@@ -1,8 +1,8 @@
-use Rattle.std.proofs.Common.{arith, ◌≡◌, ◌<◌, ◌+◌, ap, ◌∙◌, inl, inr, subst, sym, ◌⊎◌, refl}
+use Rattle.std.proofs.Common.{arith, ap, ◌∙◌, inl, inr, sym}
 use Rattle.std.proofs.lemmas.Bool.{false≢true}
 use Rattle.std.specs.FinSet as set
 use Rattle.peano_keys.specs.Cell.{key_cmp}
-use Rattle.spacetree.proofs.Planes.{below_or_at, stay_higher, count_more}
+use Rattle.spacetree.proofs.Planes.{below_or_at, count_more}
 use Rattle.spacetree.proofs.build.plane_below.Goals as goal
 
 pub loop-level-init : goal.loop-level-init

@@ -1,8 +1,8 @@
-use Rattle.std.proofs.Common.{arith, ◌≡◌, ◌<◌, ℕ, List, ap, ◌∙◌, inl, inr, subst, sym, ◌⊎◌, refl, true}
+use Rattle.std.proofs.Common.{◌≡◌, ap, ◌∙◌, inl, inr, subst, sym, true}
 use Rattle.std.specs.FinSet as set
 use Rattle.peano_keys.specs.declared.dim.Dim.{Dim}
 use Rattle.peano_keys.specs.declared.cell.CellKey.{CellKey}
-use Rattle.peano_keys.specs.Cell.{IsCell, IsDigits, child_of}
+use Rattle.peano_keys.specs.Cell.{IsDigits, child_of}
 use Rattle.peano_keys.specs.Grid.{has_cell}
 use Rattle.solver_api.specs.Step.{IsLeafOf}
 use Rattle.spacetree.specs.Digits.{digits_at, number_in}
