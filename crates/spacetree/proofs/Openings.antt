@@ -1,0 +1,56 @@
+-- The opening grid of a shape in the plane without zones.
+use Rattle.std.proofs.Common.{◌+◌, ◌-◌, ◌*◌, ◌^◌, ◌<◌, ◌≤◌, arith, lit<, ◌≡◌, ℕ, [], refl, ap, sym, ◌∙◌, subst, inl, inr, Any}
+use Rattle.std.proofs.Math.Nat.{pow-le-pow_right}
+use Rattle.std.proofs.lemmas.Nat.{pow-add}
+use Rattle.peano_keys.specs.declared.dim.Dim.{Dim}
+use Rattle.peano_keys.specs.declared.dim.Dim.TheVariants.{Two, Three}
+use Rattle.peano_keys.specs.declared.cell.CellKey.{CellKey}
+use Rattle.peano_keys.specs.Cell.{IsCell, at, parent_of}
+use Rattle.peano_keys.specs.Grid.{Cells, Spacetree, IsGrid}
+use Rattle.spacetree.specs.declared.shape.Shape.{Shape}
+use Rattle.spacetree.specs.declared.shape.Zone.{Zone}
+use Rattle.spacetree.specs.Plane.{StayBelow, HasBelow}
+use Rattle.spacetree.specs.Opening.{Opens, ZoneRefines}
+
+-- a level has three times the cells of the one above on an axis
+pub extent_step : (l : ℕ) → 0 < l → 3 ^ l ≡ 3 * 3 ^ (l - 1)
+extent_step l h = let e : l ≡ l - 1 + 1 = omega arith in ap (λ n. 3 ^ n) e ∙ omega (arith, pow-add 3 (l - 1) 1)
+
+-- the parent of a cell of the domain is one
+pub parent_cell : (dim : Dim) (c : CellKey) → IsCell dim c → 0 < c.level → IsCell dim (parent_of c)
+parent_cell Two c h pos =
+    let step = extent_step c.level pos in
+    let third : at c 2 < 1 = h.third in
+    record { shape = refl; level = omega (arith, h.level); first = omega (arith, h.first, step); second = omega (arith, h.second, step); third = omega arith }
+parent_cell Three c h pos =
+    let step = extent_step c.level pos in
+    record { shape = refl; level = omega (arith, h.level); first = omega (arith, h.first, step); second = omega (arith, h.second, step); third = omega (arith, h.third, step) }
+
+abbrev pub plane_grid : Cells → Spacetree
+plane_grid s = record { dim = Two; refined = s }
+
+pub grid_of_plane : (base depth : ℕ) (s : Cells) → StayBelow base s → HasBelow base s → base ≤ depth → IsGrid depth (plane_grid s)
+grid_of_plane base depth s stay has h = record {
+  cells = λ c e. (stay c e).cell;
+  levels = λ c e. omega (arith, (stay c e).level);
+  parents = λ c e pos. has (parent_of c) record { cell = parent_cell Two c (stay c e).cell pos; level = omega (arith, (stay c e).level) };
+}
+
+no_zone : (P : Zone → Type 0) → Any P [] → ⊥
+no_zone P h = absurd (omega (arith, h.2))
+
+pub plane_opens : (shape : Shape) (s : Cells) → StayBelow shape.base s → HasBelow shape.base s → shape.dim ≡ Two → shape.zones ≡ [] → Opens shape (plane_grid s)
+plane_opens shape s stay has plane none = record {
+  dim = sym plane;
+  refined = λ c. (
+    λ e. record { cell = subst (λ d. IsCell d c) (sym plane) (stay c e).cell; cause = inl (stay c e).level },
+    λ o. elim o.cause [
+      | inl l ↦ has c record { cell = subst (λ d. IsCell d c) plane o.cell; level = l }
+      | inr some ↦ absurd (no_zone (ZoneRefines shape.dim c) (subst (Any (ZoneRefines shape.dim c)) none some))
+    ],
+  );
+}
+
+-- down to level 5 a plane has few refined cells
+pub plane_count : (base n : ℕ) → base ≤ 5 → 8 * n + 1 ≤ 9 ^ base → 1 + 9 * n ≤ 200000
+plane_count base n h g = let most : 9 ^ base ≤ 9 ^ 5 = pow-le-pow_right (lit< tt) h in omega (arith, most)
