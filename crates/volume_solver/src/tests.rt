@@ -2,7 +2,6 @@
 ghost use Rattle.std.specs.Prelude.{◌≡◌, ◌<◌, ◌≤◌};
 ghost use Rattle.std.specs.Prelude.{IfSome};
 ghost use Rattle.solver_api.specs.Parts.{SideHas, SidesHave};
-ghost use Rattle.volume_solver.specs.Any.{parts_in};
 ghost use Rattle.volume_solver.specs.Ranges.{IsCriterion};
 
 use crate::{Advect, AnySolver, Diffuse, EdgeRule, Wave};
@@ -12,9 +11,22 @@ use std::process::Abort;
 
 const EDGE: Option<i64> = None;
 
+const ZERO: Option<i64> = Some(0);
+
 const LEAST: i64 = i64::MIN;
 
 const MOST: i64 = i64::MAX;
+
+const LOWEST: Option<i64> = Some(LEAST);
+
+const HIGHEST: Option<i64> = Some(MOST);
+
+const HUGE: i64 = 9_000_000_000_000_000_000;
+
+// The greatest coefficients.
+const MOST_A: i64 = 1_000_000;
+
+const MOST_B: i64 = 1_000_000_000_000_000_000;
 
 // A leaf's value, the values across its faces by axis, the low one first, its level, and its new value.
 type Row = (i64, [Option<i64>; 6], u32, Option<i64>);
@@ -38,8 +50,8 @@ fn sides(values: [Option<i64>; 6]) -> Sides
     }
 }
 
-fn updates(rt: &impl Abort, solver: &AnySolver, rows: &[Row])
-    requires { parts_in solver.now ≡ 1 }
+fn updates<S: Solver>(rt: &impl Abort, solver: &S, rows: &[Row])
+    requires { S.parts_of solver.now ≡ 1 }
 {
     for (own, values, level, want) in rows {
         assert!(rt; *level <= 12);
@@ -55,25 +67,10 @@ fn diffusion_in_a_plane(rt: HostRuntime) {
         &rt,
         &pulse,
         &[
-            (
-                100,
-                [Some(0), Some(0), Some(0), Some(0), EDGE, EDGE],
-                1,
-                Some(60),
-            ),
-            (
-                0,
-                [EDGE, Some(100), Some(0), Some(0), EDGE, EDGE],
-                1,
-                Some(10),
-            ),
-            (0, [EDGE, Some(0), EDGE, Some(0), EDGE, EDGE], 1, Some(0)),
-            (
-                0,
-                [EDGE, Some(0), EDGE, Some(0), Some(700), Some(700)],
-                1,
-                Some(0),
-            ),
+            (100, [ZERO, ZERO, ZERO, ZERO, EDGE, EDGE], 1, Some(60)),
+            (0, [EDGE, Some(100), ZERO, ZERO, EDGE, EDGE], 1, Some(10)),
+            (0, [EDGE, ZERO, EDGE, ZERO, EDGE, EDGE], 1, ZERO),
+            (0, [EDGE, ZERO, EDGE, ZERO, Some(700), Some(700)], 1, ZERO),
         ],
     );
     let floor = AnySolver::Diffuse(Diffuse::new(Dim::Two, 1, 91, EdgeRule::Copy, None));
@@ -81,18 +78,8 @@ fn diffusion_in_a_plane(rt: HostRuntime) {
         &rt,
         &floor,
         &[
-            (
-                100,
-                [Some(0), Some(0), Some(0), Some(0), EDGE, EDGE],
-                1,
-                Some(60),
-            ),
-            (
-                0,
-                [EDGE, Some(100), Some(0), Some(0), EDGE, EDGE],
-                1,
-                Some(9),
-            ),
+            (100, [ZERO, ZERO, ZERO, ZERO, EDGE, EDGE], 1, Some(60)),
+            (0, [EDGE, Some(100), ZERO, ZERO, EDGE, EDGE], 1, Some(9)),
         ],
     );
     let fixed = AnySolver::Diffuse(Diffuse::new(
@@ -106,13 +93,8 @@ fn diffusion_in_a_plane(rt: HostRuntime) {
         &rt,
         &fixed,
         &[
-            (0, [EDGE, Some(0), EDGE, Some(0), EDGE, EDGE], 1, Some(1)),
-            (
-                0,
-                [EDGE, Some(100), Some(0), Some(0), EDGE, EDGE],
-                1,
-                Some(10),
-            ),
+            (0, [EDGE, ZERO, EDGE, ZERO, EDGE, EDGE], 1, Some(1)),
+            (0, [EDGE, Some(100), ZERO, ZERO, EDGE, EDGE], 1, Some(10)),
         ],
     );
     let levels = AnySolver::Diffuse(Diffuse::new(Dim::Two, 1, 7290, EdgeRule::Copy, None));
@@ -120,73 +102,30 @@ fn diffusion_in_a_plane(rt: HostRuntime) {
         &rt,
         &levels,
         &[
-            (
-                90,
-                [EDGE, Some(0), Some(0), Some(0), EDGE, EDGE],
-                1,
-                Some(89),
-            ),
-            (
-                0,
-                [Some(90), Some(0), Some(0), Some(0), EDGE, EDGE],
-                2,
-                Some(1),
-            ),
-            (
-                0,
-                [Some(90), Some(0), Some(0), Some(0), EDGE, EDGE],
-                3,
-                Some(9),
-            ),
+            (90, [EDGE, ZERO, ZERO, ZERO, EDGE, EDGE], 1, Some(89)),
+            (0, [Some(90), ZERO, ZERO, ZERO, EDGE, EDGE], 2, Some(1)),
+            (0, [Some(90), ZERO, ZERO, ZERO, EDGE, EDGE], 3, Some(9)),
         ],
     );
     let overflow = AnySolver::Diffuse(Diffuse::new(Dim::Two, 1, 1, EdgeRule::Copy, None));
-    let most = Some(9_000_000_000_000_000_000);
-    let least = Some(-9_000_000_000_000_000_000);
+    let most = Some(HUGE);
+    let least = Some(-HUGE);
     updates(
         &rt,
         &overflow,
         &[
-            (
-                -9_000_000_000_000_000_000,
-                [most, most, most, most, EDGE, EDGE],
-                1,
-                None,
-            ),
-            (
-                9_000_000_000_000_000_000,
-                [EDGE, least, most, most, EDGE, EDGE],
-                1,
-                None,
-            ),
-            (
-                9_000_000_000_000_000_000,
-                [EDGE, most, EDGE, most, EDGE, EDGE],
-                1,
-                most,
-            ),
+            (-HUGE, [most, most, most, most, EDGE, EDGE], 1, None),
+            (HUGE, [EDGE, least, most, most, EDGE, EDGE], 1, None),
+            (HUGE, [EDGE, most, EDGE, most, EDGE, EDGE], 1, most),
         ],
     );
-    let ends = AnySolver::Diffuse(Diffuse::new(
-        Dim::Two,
-        1_000_000,
-        1_000_000_000_000_000_000,
-        EdgeRule::Copy,
-        None,
-    ));
+    let ends = AnySolver::Diffuse(Diffuse::new(Dim::Two, MOST_A, MOST_B, EdgeRule::Copy, None));
     updates(
         &rt,
         &ends,
         &[(
             LEAST,
-            [
-                Some(MOST),
-                Some(LEAST),
-                Some(LEAST),
-                Some(LEAST),
-                EDGE,
-                EDGE,
-            ],
+            [HIGHEST, LOWEST, LOWEST, LOWEST, EDGE, EDGE],
             12,
             Some(-4_013_466_658_533_353_448),
         )],
@@ -195,99 +134,59 @@ fn diffusion_in_a_plane(rt: HostRuntime) {
 
 #[test]
 fn diffusion_in_space(rt: HostRuntime) {
-    let pulse = AnySolver::Diffuse(Diffuse::new(Dim::Three, 1, 90, EdgeRule::Copy, None));
+    let pulse = Diffuse::new(Dim::Three, 1, 90, EdgeRule::Copy, None);
     updates(
         &rt,
         &pulse,
         &[
-            (600, [Some(0); 6], 1, Some(240)),
-            (
-                0,
-                [EDGE, Some(600), Some(0), Some(0), Some(0), Some(0)],
-                1,
-                Some(60),
-            ),
-            (
-                0,
-                [Some(0), Some(0), Some(0), Some(0), Some(600), EDGE],
-                1,
-                Some(60),
-            ),
+            (600, [ZERO; 6], 1, Some(240)),
+            (0, [EDGE, Some(600), ZERO, ZERO, ZERO, ZERO], 1, Some(60)),
+            (0, [ZERO, ZERO, ZERO, ZERO, Some(600), EDGE], 1, Some(60)),
         ],
     );
-    let steep = AnySolver::Diffuse(Diffuse::new(Dim::Three, 1_000_000, 1, EdgeRule::Copy, None));
+    let steep = Diffuse::new(Dim::Three, 1_000_000, 1, EdgeRule::Copy, None);
     updates(
         &rt,
         &steep,
         &[
-            (
-                0,
-                [
-                    EDGE,
-                    Some(9_000_000_000_000_000_000),
-                    Some(0),
-                    Some(0),
-                    Some(0),
-                    Some(0),
-                ],
-                1,
-                None,
-            ),
-            (0, [EDGE, Some(0), EDGE, Some(0), EDGE, Some(0)], 1, Some(0)),
-            (LEAST, [Some(MOST); 6], 12, None),
+            (0, [EDGE, Some(HUGE), ZERO, ZERO, ZERO, ZERO], 1, None),
+            (0, [EDGE, ZERO, EDGE, ZERO, EDGE, ZERO], 1, ZERO),
+            (LEAST, [HIGHEST; 6], 12, None),
         ],
     );
-    let still = AnySolver::Diffuse(Diffuse::new(Dim::Three, 0, 1, EdgeRule::Copy, None));
-    updates(&rt, &still, &[(LEAST, [Some(MOST); 6], 12, Some(LEAST))]);
-    let ends = AnySolver::Diffuse(Diffuse::new(
-        Dim::Three,
-        1_000_000,
-        1_000_000_000_000_000_000,
-        EdgeRule::Copy,
-        None,
-    ));
+    let still = Diffuse::new(Dim::Three, 0, 1, EdgeRule::Copy, None);
+    updates(&rt, &still, &[(LEAST, [HIGHEST; 6], 12, LOWEST)]);
+    let ends = Diffuse::new(Dim::Three, MOST_A, MOST_B, EdgeRule::Copy, None);
     updates(
         &rt,
         &ends,
         &[
             (
                 MOST,
-                [
-                    Some(LEAST),
-                    Some(MOST),
-                    Some(MOST),
-                    Some(MOST),
-                    Some(MOST),
-                    Some(MOST),
-                ],
+                [LOWEST, HIGHEST, HIGHEST, HIGHEST, HIGHEST, HIGHEST],
                 12,
                 Some(4_013_466_658_533_353_446),
             ),
-            (LEAST, [Some(MOST); 6], 12, None),
+            (LEAST, [HIGHEST; 6], 12, None),
         ],
     );
 }
 
 #[test]
 fn advection(rt: HostRuntime) {
-    let inflow = AnySolver::Advect(Advect::new(
+    let inflow = Advect::new(
         Dim::Two,
         [1, 0, 0],
         3,
         EdgeRule::Fixed(State::Single(100)),
         None,
-    ));
+    );
     updates(
         &rt,
         &inflow,
         &[
-            (
-                0,
-                [EDGE, Some(0), Some(0), Some(0), EDGE, EDGE],
-                1,
-                Some(100),
-            ),
-            (0, [Some(0), EDGE, Some(0), Some(0), EDGE, EDGE], 1, Some(0)),
+            (0, [EDGE, ZERO, ZERO, ZERO, EDGE, EDGE], 1, Some(100)),
+            (0, [ZERO, EDGE, ZERO, ZERO, EDGE, EDGE], 1, ZERO),
         ],
     );
     let slanted = AnySolver::Advect(Advect::new(Dim::Two, [-2, 7, 0], 11, EdgeRule::Copy, None));
@@ -295,30 +194,10 @@ fn advection(rt: HostRuntime) {
         &rt,
         &slanted,
         &[
-            (
-                0,
-                [EDGE, Some(100), Some(0), Some(0), EDGE, EDGE],
-                1,
-                Some(55),
-            ),
-            (
-                100,
-                [Some(0), Some(0), Some(0), Some(0), EDGE, EDGE],
-                1,
-                Some(-145),
-            ),
-            (
-                0,
-                [Some(0), Some(0), Some(100), EDGE, EDGE, EDGE],
-                1,
-                Some(191),
-            ),
-            (
-                0,
-                [Some(100), EDGE, Some(0), Some(0), Some(5), Some(5)],
-                1,
-                Some(0),
-            ),
+            (0, [EDGE, Some(100), ZERO, ZERO, EDGE, EDGE], 1, Some(55)),
+            (100, [ZERO, ZERO, ZERO, ZERO, EDGE, EDGE], 1, Some(-145)),
+            (0, [ZERO, ZERO, Some(100), EDGE, EDGE, EDGE], 1, Some(191)),
+            (0, [Some(100), EDGE, ZERO, ZERO, Some(5), Some(5)], 1, ZERO),
         ],
     );
     let fast = AnySolver::Advect(Advect::new(
@@ -331,19 +210,19 @@ fn advection(rt: HostRuntime) {
     updates(
         &rt,
         &fast,
-        &[(LEAST, [Some(MOST); 6], 12, Some(5_481_662_139_059_640_922))],
+        &[(LEAST, [HIGHEST; 6], 12, Some(5_481_662_139_059_640_922))],
     );
     let ends = AnySolver::Advect(Advect::new(
         Dim::Three,
         [1_000_000, -1_000_000, 1_000_000],
-        1_000_000_000_000_000_000,
+        MOST_B,
         EdgeRule::Copy,
         None,
     ));
     updates(
         &rt,
         &ends,
-        &[(MOST, [Some(LEAST); 6], 12, Some(9_223_342_626_786_423_979))],
+        &[(MOST, [LOWEST; 6], 12, Some(9_223_342_626_786_423_979))],
     );
     let faster = AnySolver::Advect(Advect::new(
         Dim::Three,
@@ -352,7 +231,7 @@ fn advection(rt: HostRuntime) {
         EdgeRule::Copy,
         None,
     ));
-    updates(&rt, &faster, &[(LEAST, [Some(MOST); 6], 12, None)]);
+    updates(&rt, &faster, &[(LEAST, [HIGHEST; 6], 12, None)]);
 }
 
 // A value and its speed across a face.
@@ -410,7 +289,7 @@ fn mark_of(criterion: Option<Criterion>, second: [Option<i64>; 2], level: u32) -
     requires criterion { IfSome criterion (IsCriterion 2) }
     requires level { level ≤ 12 }
 {
-    let solver = AnySolver::Wave(Wave::new(Dim::Two, 1, 90, EdgeRule::Copy, criterion));
+    let solver = Wave::new(Dim::Two, 1, 90, EdgeRule::Copy, criterion);
     let [low, high] = second.map(|value| value.map(|value| (1_000_000, value)));
     solver.mark(
         &State::Pair(0, 0),
@@ -435,7 +314,7 @@ fn marks(rt: HostRuntime) {
         ([Some(5), Some(0)], 1, Mark::Keep),
         ([Some(4), Some(-4)], 1, Mark::Coarsen),
         ([None, None], 1, Mark::Coarsen),
-        ([Some(LEAST), Some(MOST)], 1, Mark::Refine),
+        ([LOWEST, HIGHEST], 1, Mark::Refine),
     ] {
         assert!(rt; level <= 12);
         assert_eq!(rt; mark_of(Some(criterion), second, level), want, "at {level}");
@@ -460,7 +339,7 @@ fn the_greatest_difference(rt: HostRuntime) {
             EdgeRule::Copy,
             Some(criterion),
         ));
-        let seen = sides([Some(MOST), EDGE, EDGE, EDGE, EDGE, EDGE]);
+        let seen = sides([HIGHEST, EDGE, EDGE, EDGE, EDGE, EDGE]);
         assert_eq!(rt;
             solver.mark(&State::Single(LEAST), &seen, 11),
             want,
