@@ -2,6 +2,7 @@
 #![tactic(auto)]
 
 mod answer;
+mod report;
 mod text;
 
 pub use answer::{Answer, Outcome};
