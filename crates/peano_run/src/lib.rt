@@ -4,6 +4,8 @@
 mod answer;
 mod report;
 mod text;
+mod top;
 
 pub use answer::{Answer, Outcome};
 pub use text::{FixedText, refusal_text};
+pub use top::run;
