@@ -38,7 +38,7 @@ fn covering(grid: &Grid, field: &Field, key: CellKey) -> State
     requires { IsCell grid.now.dim key }
     ensures { result ≡ covering_state key.level grid.now field.now key }
 {
-    if grid.is_cell(&key) {
+    if grid.has_cell(&key) {
         return state(field, &key);
     }
     covering(grid, field, parent(key))
@@ -54,7 +54,7 @@ fn side(grid: &Grid, field: &Field, key: CellKey, face: Face) -> Side
     match neighbour(grid.dim(), key, face) {
         None => Side::Edge,
         Some(other) => {
-            if grid.is_cell(&other) {
+            if grid.has_cell(&other) {
                 Side::Same(value(grid, field, other))
             } else {
                 Side::Coarse(covering(grid, field, other))
