@@ -4,5 +4,6 @@ pub mod CellSets
 pub mod Children
 pub mod Givens
 pub mod Leaves
-pub mod Planes
 pub mod Openings
+pub mod Descents
+pub mod CellCounts

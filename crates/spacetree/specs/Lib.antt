@@ -10,4 +10,4 @@ pub mod Digits
 pub mod Fields
 pub mod Opening
 pub mod Evaluation
-pub mod Plane
+pub mod Build

@@ -1,14 +1,14 @@
-use Rattle.std.proofs.Common.{arith, ◌≡◌, ◌<◌, ℕ, List, ap, ◌∙◌, inl, inr, subst, sym, ◌⊎◌, refl, true}
+use Rattle.std.proofs.Common.{◌≡◌, ap, ◌∙◌, inl, inr, subst, sym, true}
 use Rattle.std.specs.FinSet as set
 use Rattle.peano_keys.specs.declared.dim.Dim.{Dim}
 use Rattle.peano_keys.specs.declared.cell.CellKey.{CellKey}
-use Rattle.peano_keys.specs.Cell.{IsCell, IsDigits, child_of}
+use Rattle.peano_keys.specs.Cell.{IsDigits, child_of}
 use Rattle.peano_keys.specs.Grid.{has_cell}
 use Rattle.solver_api.specs.Step.{IsLeafOf}
 use Rattle.spacetree.specs.Digits.{digits_at, number_in}
 use Rattle.spacetree.proofs.Children.{child_by_number, third_digit}
 use Rattle.spacetree.proofs.Leaves.{child_there}
-use Rattle.spacetree.proofs.Planes.{below_or_at}
+use Rattle.spacetree.proofs.CellSets.{below_or_at}
 use Rattle.spacetree.proofs.grid.Grid.add_leaves.Goals as goal
 
 pub add_leaf-requires-clause-cell : goal.add_leaf-requires-clause-cell
