@@ -1,5 +1,6 @@
 -- Steps of sets and lists of cells.
 use Rattle.std.proofs.Common.{zero, suc, ◌+◌, ◌<◌, ◌≤◌, length, take, get_or, arith, ◌≡◌, ℕ, List, [], ◌∷◌, ◌++◌, Bool, true, false, cond, refl, ap, sym, ◌∙◌, ◌⊎◌, inl, inr}
+use Rattle.std.proofs.Math.Nat.{eq-or-lt_of_le}
 use Rattle.std.specs.FinSet as set
 use Rattle.std.specs.List.{list_any}
 use Rattle.std.specs.Cmp.{Equal-is, tied_itself}
@@ -59,3 +60,7 @@ pub among_at : (xs : List CellKey) (i : ℕ) (d : CellKey) → i < length xs →
 among_at [] i d h = absurd (omega arith)
 among_at (x ∷ xs) zero d h = or_left (eq_by_cmp key_cmp x x) _ (itself x)
 among_at (x ∷ xs) (suc i) d h = or_right (eq_by_cmp key_cmp (get_or xs i d) x) _ (among_at xs i d (omega arith))
+
+-- a number below `n + 1` is below `n` or is `n`
+pub below_or_at : (a n : ℕ) → a < n + 1 → (a < n) ⊎ (a ≡ n)
+below_or_at a n h = let le : a ≤ n = omega arith in elim (eq-or-lt_of_le le) [ inl e ↦ inr e | inr l ↦ inl l ]

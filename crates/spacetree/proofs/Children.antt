@@ -3,6 +3,7 @@ use Rattle.std.proofs.Common.{◌-◌, ◌/◌, ◌<◌, ◌^◌, length, slice_
 use Rattle.peano_keys.specs.declared.dim.Dim.{Dim}
 use Rattle.peano_keys.specs.declared.dim.Dim.TheVariants.{Two, Three}
 use Rattle.peano_keys.specs.declared.cell.CellKey.{CellKey}
+use Rattle.peano_keys.specs.Dim.{axes}
 use Rattle.peano_keys.specs.Cell.{IsCell, IsDigits, at, triple, parent_of, child_of, root}
 use Rattle.spacetree.specs.Digits.{digits_at, number_in}
 
@@ -44,7 +45,7 @@ child_by_number Three q p n h pos e m =
     key_from_parts q _ _ _ _ h.shape (omega arith) (omega arith) (omega arith) (omega arith)
 
 -- the number of a child
-pub number_bound : (dim : Dim) (q : CellKey) → number_in dim q < 3 ^ 3
+pub number_bound : (dim : Dim) (q : CellKey) → number_in dim q < 3 ^ axes dim
 number_bound Two q = omega arith
 number_bound Three q = omega arith
 

@@ -14,4 +14,4 @@ pub mod Fields
 pub mod Opening
 pub mod Evaluation
 pub mod Diffusion
-pub mod Plane
+pub mod Build

@@ -1,16 +1,16 @@
 //! Grids: sets of refined cells.
-ghost use Rattle.std.specs.Prelude.{◌≡◌, ◌≢◌, ◌<◌, ◌≤◌, true, IfOk, OnOk, IsTrue, ◌↔◌, [], Err};
+ghost use Rattle.std.specs.Prelude.{◌≡◌, ◌<◌, ◌≤◌, ◌↔◌, true, IfOk, IfErr, IsTrue, OnOk};
 ghost use Rattle.spacetree.specs.Digits.{HasLeavesOf, HasLeavesUnder, IsKept};
-ghost use Rattle.peano_keys.specs.declared.dim.Dim.{Dim};
 ghost use Rattle.peano_keys.specs.Cell.{IsCell};
 ghost use Rattle.peano_keys.specs.Grid.{IsGrid, has_cell, is_refined};
 ghost use Rattle.spacetree.specs.Counts.{cells_of, leaves_of};
 ghost use Rattle.std.specs.FinSet as set;
 ghost use Rattle.solver_api.specs.Step.{IsLeafOf};
 ghost use Rattle.spacetree.specs.Leaves.{IsCellOf, ListsCells, ListsLeaves};
+ghost use Rattle.spacetree.specs.Build.{IsShape, BuildFails};
 ghost use Rattle.spacetree.specs.Opening.{Opens};
 
-use crate::build::plane_below;
+use crate::build::refined_cells;
 use crate::cells::CellSet;
 use crate::digits::{fan, nth_digits};
 use crate::fault::BuildFault;
@@ -42,22 +42,19 @@ impl Model for Grid {
 }
 
 impl Grid {
-    /// The opening grid of a shape in the plane without zones.
+    /// The opening grid of a shape: the cells of the levels below its base are refined, and those that its zones refine.
+    /// It is refused where that grid has more than 200,000 cells. A zone may name any number of cells.
     pub fn build(alloc: Global, shape: &Shape) -> Result<Grid, BuildFault>
-        requires plane { shape.now.dim ≡ Dim.Two }
-        requires no_zones { shape.now.zones ≡ [] }
-        requires base { shape.now.base ≤ shape.now.depth }
-        requires small { shape.now.base ≤ 5 }
+        requires { IsShape shape.now }
         ensures opening { IfOk result (λ grid. Opens shape.now grid) }
         ensures grid { IfOk result (λ grid. IsGrid shape.now.depth grid) }
         ensures served { IfOk result (λ grid. IsGrid 12 grid) }
-
-        // Down to level 5 a plane never has too many cells.
-        ensures fits { result ≢ Err BuildFault.TooMany }
+        ensures small { IfOk result (λ grid. cells_of grid ≤ 200000) }
+        ensures fault { IfErr result (BuildFails shape.now) }
     {
-        let refined = plane_below(alloc, shape.base)?;
+        let refined = refined_cells(alloc, shape)?;
         Ok(Grid {
-            dim: Dim::Two,
+            dim: shape.dim,
             refined,
         })
     }

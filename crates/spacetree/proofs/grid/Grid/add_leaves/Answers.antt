@@ -8,7 +8,7 @@ use Rattle.solver_api.specs.Step.{IsLeafOf}
 use Rattle.spacetree.specs.Digits.{digits_at, number_in}
 use Rattle.spacetree.proofs.Children.{child_by_number, third_digit}
 use Rattle.spacetree.proofs.Leaves.{child_there}
-use Rattle.spacetree.proofs.Planes.{below_or_at}
+use Rattle.spacetree.proofs.CellSets.{below_or_at}
 use Rattle.spacetree.proofs.grid.Grid.add_leaves.Goals as goal
 
 pub add_leaf-requires-clause-cell : goal.add_leaf-requires-clause-cell
