@@ -1,7 +1,17 @@
-//! Reads a file: the plain form, which is a uniform grid in two dimensions with the diffusion solver.
+//! Reads a file: into its plan, or into the code and the place of the one refusal that it gets.
 #![tactic(auto)]
 
+mod fault;
+mod place;
 mod plain;
+mod plan;
+mod solver;
+mod text;
 mod tree;
 
+pub use fault::{Malformed, PlanFault};
+pub use place::{KeyName, Part, Place};
 pub use plain::{PlainPlan, read_plain};
+pub use plan::{Plan, is_printed, read_plan};
+pub use solver::{SolverForm, SolverName};
+pub use text::{PlaceText, place_text};
