@@ -1,5 +1,5 @@
 -- The plan that a file means, and every refusal: for each key what may stand there, in the order of the codes.
-use Rattle.std.specs.Prelude.{ℕ, zero, suc, ℤ, pos, Bool, true, false, not, List, [], ◌∷◌, ◌++◌, map, Option, Some, None, Result, Ok, Err, codes, ◌+◌, ◌-◌, ◌^◌, ◌%◌, ◌==◌, ◌&&◌, ◌||◌, nat_le, unwrap_or, is_some, is_none, option_and_then}
+use Rattle.std.specs.Prelude.{ℕ, zero, suc, ℤ, pos, Bool, true, false, not, List, [], ◌∷◌, ◌++◌, map, Option, Some, None, Result, Ok, Err, codes, ◌+◌, ◌-◌, ◌^◌, ◌%◌, ◌==◌, ◌&&◌, ◌||◌, nat_le, unwrap_or, is_some, is_none}
 use Rattle.toml.specs.Data.{Data, Items, Members, as_table, get_member, no_items, item}
 use Rattle.peano_keys.specs.declared.dim.Dim as dims
 use Rattle.peano_keys.specs.declared.dim.Dim.TheVariants.{Two}
@@ -23,7 +23,7 @@ use Rattle.grid_file.specs.declared.plan.Plan.{Plan}
 use Rattle.grid_file.specs.Tree.{tree_of, number_in, has_only}
 use Rattle.grid_file.specs.Places.{spelled, place_of, document_key}
 use Rattle.grid_file.specs.Faults.{Check, Fault, check, malformed, coded, least, judged}
-use Rattle.grid_file.specs.Values.{number_or, dim_in, solver_in, parts_of, takes_a, takes_wind, wind_in, from_in, to_in, state_in, fixed_in, edge_in, print_every_in, list_in}
+use Rattle.grid_file.specs.Values.{number_or, dim_in, solver_in, parts_of, takes_a, takes_wind, wind_in, from_in, to_in, state_in, fixed_in, edge_in, print_every_in, list_in, table_at}
 
 -- what stands at a key of a table
 abbrev pub at_key : KeyName → Members → Option Data
@@ -60,7 +60,7 @@ in_each checks n (item d rest) = in_table checks n (as_table d) ++ in_each check
 
 -- those of each table of a file, in order
 abbrev pub in_tables : (Part → ℕ → Members → List Check) → Members → List Check
-in_tables checks t = checks Document 0 t ++ (in_table (checks Criterion) 0 (option_and_then as_table (criterion_at t)) ++ (in_each (checks Fill) 0 (listed (fill_at t)) ++ in_each (checks Refine) 0 (listed (refine_at t))))
+in_tables checks t = checks Document 0 t ++ (in_table (checks Criterion) 0 (table_at (criterion_at t)) ++ (in_each (checks Fill) 0 (listed (fill_at t)) ++ in_each (checks Refine) 0 (listed (refine_at t))))
 
 -- code 2: a key that is not listed for its table
 
@@ -180,7 +180,7 @@ criterion_form solver (Some c) = criterion_keys solver c
 
 abbrev pub criterion_checks : SolverName → Option Data → List Check
 criterion_checks solver None = []
-criterion_checks solver (Some d) = criterion_form solver (as_table d)
+criterion_checks solver (Some d) = criterion_form solver (table_at (Some d))
 
 abbrev pub criterion_with : ℕ → SolverName → Members → criteria.Criterion
 criterion_with depth solver c = record { hi = pos (hi_of c); lo = pos (unwrap_or (lo_in (hi_of c) c) 0); watch = unwrap_or (watch_in solver c) 0; depth = depth }
@@ -190,7 +190,7 @@ criterion_from depth solver None = None
 criterion_from depth solver (Some c) = Some (criterion_with depth solver c)
 
 abbrev pub criterion_of : ℕ → SolverName → Option Data → Option criteria.Criterion
-criterion_of depth solver d = criterion_from depth solver (option_and_then as_table d)
+criterion_of depth solver d = criterion_from depth solver (table_at d)
 
 -- the keys that a fill and a box to refine share
 

@@ -25,6 +25,10 @@ items_at d = option_and_then as_array d
 abbrev pub text_at : Option Data → Option (List ℕ)
 text_at d = option_and_then as_str d
 
+-- the table, where what stands there is one
+abbrev pub table_at : Option Data → Option Members
+table_at d = option_and_then as_table d
+
 -- `dim`: 2 or 3
 abbrev pub dim_of_number : ℕ → Dim
 dim_of_number n = if nat_eq n 2 then Two else Three
@@ -54,6 +58,12 @@ abbrev pub takes_wind : SolverName → Bool
 takes_wind Advect = true
 takes_wind _ = false
 
+-- exactly as many items as there are axes
+abbrev pub axes_in : Dim → Items → Option (Data × Data × Option Data)
+axes_in Two (item x (item y no_items)) = Some (x, y, None)
+axes_in Three (item x (item y (item z no_items))) = Some (x, y, Some z)
+axes_in dim _ = None
+
 -- a speed: at most a million in either direction
 abbrev pub slow : ℤ → Option ℤ
 slow z = if nat_le (unsigned_abs z) 1000000 then Some z else None
@@ -65,26 +75,32 @@ abbrev pub wind_from : Option ℤ → Option ℤ → Option ℤ → Option (List
 wind_from (Some x) (Some y) (Some z) = Some (x ∷ y ∷ z ∷ [])
 wind_from _ _ _ = None
 
--- exactly as many speeds as there are axes, and none on an unused axis
+abbrev pub third_speed : Option Data → Option ℤ
+third_speed None = Some (pos 0)
+third_speed (Some d) = speed_in d
+
+-- a speed on each axis, and none on an unused one
+abbrev pub speeds_on : Data × Data × Option Data → Option (List ℤ)
+speeds_on p = wind_from (speed_in p.0) (speed_in p.1) (third_speed p.2)
+
 abbrev pub speeds_in : Dim → Items → Option (List ℤ)
-speeds_in Two (item x (item y no_items)) = wind_from (speed_in x) (speed_in y) (Some (pos 0))
-speeds_in Three (item x (item y (item z no_items))) = wind_from (speed_in x) (speed_in y) (speed_in z)
-speeds_in dim _ = None
+speeds_in dim items = option_and_then speeds_on (axes_in dim items)
 
 -- `wind`: a speed on each axis, none where it is absent
 abbrev pub wind_in : Dim → Option Data → Option (List ℤ)
 wind_in dim None = Some (pos 0 ∷ pos 0 ∷ pos 0 ∷ [])
-wind_in dim (Some d) = option_and_then (speeds_in dim) (as_array d)
+wind_in dim (Some d) = option_and_then (speeds_in dim) (items_at (Some d))
 
 abbrev pub corner_from : Option ℕ → Option ℕ → Option ℕ → Option (List ℕ)
 corner_from (Some x) (Some y) (Some z) = Some (triple x y z)
 corner_from _ _ _ = None
 
--- exactly as many integers as there are axes, each from its axis's `low` to `high`; an unused coordinate is 0
+-- an integer on each axis, from its `low` to `high`; an unused coordinate is 0
+abbrev pub corner_on : List ℕ → ℕ → Data × Data × Option Data → Option (List ℕ)
+corner_on low high p = corner_from (number_in (slice_index low 0) high (Some p.0)) (number_in (slice_index low 1) high (Some p.1)) (number_or 0 (slice_index low 2) high p.2)
+
 abbrev pub corner_within : Dim → List ℕ → ℕ → Items → Option (List ℕ)
-corner_within Two low high (item x (item y no_items)) = corner_from (number_in (slice_index low 0) high (Some x)) (number_in (slice_index low 1) high (Some y)) (Some 0)
-corner_within Three low high (item x (item y (item z no_items))) = corner_from (number_in (slice_index low 0) high (Some x)) (number_in (slice_index low 1) high (Some y)) (number_in (slice_index low 2) high (Some z))
-corner_within dim low high _ = None
+corner_within dim low high items = option_and_then (corner_on low high) (axes_in dim items)
 
 -- `from`: a cell of the level
 abbrev pub from_in : Dim → ℕ → Option Data → Option (List ℕ)
@@ -122,7 +138,7 @@ fixed_named s = if same_text s (codes "copy") then Some false else (if same_text
 
 abbrev pub fixed_in : Option Data → Option Bool
 fixed_in None = Some false
-fixed_in (Some d) = option_and_then fixed_named (as_str d)
+fixed_in (Some d) = option_and_then fixed_named (text_at (Some d))
 
 -- the rule at the domain's edge: a fixed one has a state at `edge_value`, and a copy has none
 abbrev pub edge_in : SolverName → Bool → Option Data → Option EdgeRule
@@ -151,4 +167,4 @@ tables_within items = if are_tables items && nat_le (count_items items) 1000 the
 -- `fill` and `refine`: absent, or an array of at most a thousand tables
 abbrev pub list_in : Option Data → Option Items
 list_in None = Some no_items
-list_in (Some d) = option_and_then tables_within (as_array d)
+list_in (Some d) = option_and_then tables_within (items_at (Some d))

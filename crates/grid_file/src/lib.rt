@@ -8,6 +8,7 @@ mod plan;
 mod solver;
 mod text;
 mod tree;
+mod values;
 
 pub use fault::{Malformed, PlanFault};
 pub use place::{KeyName, Part, Place};
