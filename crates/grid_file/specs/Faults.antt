@@ -3,7 +3,6 @@ use Rattle.std.specs.Prelude.{ℕ, Bool, true, false, List, [], ◌∷◌, Optio
 use Rattle.grid_file.specs.declared.place.Place.{Place}
 use Rattle.grid_file.specs.declared.fault.Malformed.{Malformed}
 use Rattle.grid_file.specs.declared.fault.PlanFault.{PlanFault}
-use Rattle.grid_file.specs.declared.fault.PlanFault.TheVariants.{NoMemory}
 use Rattle.grid_file.specs.declared.fault.PlanFault.TheVariants.{Malformed as Refused}
 
 -- a place, and whether what stands there is refused
@@ -47,10 +46,9 @@ abbrev pub judged : {T : Type 0} → Option Malformed → T → Result T Malform
 judged None value = Ok value
 judged (Some m) value = Err m
 
--- the refusal is the one that is said, or memory ran out
+-- a refusal is the one that is said; want of memory may come at any time
 abbrev pub Refuses : {T : Type 0} → PlanFault → Result T Malformed → Type 0
-Refuses (Refused m) said = said ≡ Err m
-Refuses NoMemory said = Unit {0}
+Refuses fault said = (m : Malformed) → fault ≡ Refused m → said ≡ Err m
 
 -- what is returned is what is said, unless memory ran out
 abbrev pub Reads : {T : Type 0} → Result T PlanFault → Result T Malformed → Type 0
@@ -59,8 +57,7 @@ Reads (Err fault) said = Refuses fault said
 
 -- the same of one part of a file: a refusal that it may get, and its value where it gets none
 abbrev pub IsFault : PlanFault → Option Malformed → Type 0
-IsFault (Refused m) said = said ≡ Some m
-IsFault NoMemory said = Unit {0}
+IsFault fault said = (m : Malformed) → fault ≡ Refused m → said ≡ Some m
 
 abbrev pub Gives : {T : Type 0} → Result T PlanFault → Option Malformed → T → Type 0
 Gives (Ok v) said value = (said ≡ None) × (value ≡ v)

@@ -4,3 +4,4 @@ pub mod Places
 pub mod Faults
 pub mod Values
 pub mod Plan
+pub mod Stages

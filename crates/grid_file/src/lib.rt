@@ -1,7 +1,9 @@
 //! Reads a file: into its plan, or into the code and the place of the one refusal that it gets.
 #![tactic(auto)]
 
+mod boxes;
 mod fault;
+mod keys;
 mod place;
 mod plain;
 mod plan;

@@ -108,7 +108,10 @@ pub fn wind(dim: Dim, found: Option<&Value>) -> Option<[i64; 3]>
 
 // A coordinate on each axis, from its `low` to `high`, and 0 on an unused one.
 fn corner(dim: Dim, low: [u32; 3], high: u32, items: &[Value]) -> Option<[u32; 3]>
-    ensures { result ≡ corner_within dim low high (items_view items.now) }
+    ensures value { result ≡ corner_within dim low high (items_view items.now) }
+    ensures first { IfSome result (λ x. slice_index x 0 ≤ high) }
+    ensures second { IfSome result (λ x. slice_index x 1 ≤ high) }
+    ensures third { IfSome result (λ x. slice_index x 2 ≤ high) }
 {
     let (x, y, z) = axes(dim, items)?;
     let high = u64::from(high);
@@ -132,7 +135,10 @@ fn extent(level: u32) -> u32
 /// The low corner of a box: a cell of the level.
 pub fn from(dim: Dim, level: u32, found: Option<&Value>) -> Option<[u32; 3]>
     requires { level ≤ 12 }
-    ensures { result ≡ from_in dim level (option_map (λ v. view v.now) found.entry) }
+    ensures value { result ≡ from_in dim level (option_map (λ v. view v.now) found.entry) }
+    ensures first { IfSome result (λ x. slice_index x 0 ≤ 3 ^ level) }
+    ensures second { IfSome result (λ x. slice_index x 1 ≤ 3 ^ level) }
+    ensures third { IfSome result (λ x. slice_index x 2 ≤ 3 ^ level) }
 {
     corner(dim, [0, 0, 0], extent(level) - 1, items(found)?)
 }
