@@ -10,12 +10,13 @@ use Rattle.grid_file.specs.declared.fault.Malformed.{Malformed}
 use Rattle.grid_file.specs.declared.keys.Pass.{Pass}
 use Rattle.grid_file.specs.declared.keys.Pass.TheVariants.{Unlisted, Missing}
 use Rattle.grid_file.specs.declared.solver.SolverName.{SolverName}
-use Rattle.grid_file.specs.declared.plan.Head.{Head}
-use Rattle.grid_file.specs.declared.plan.Rates.{Rates}
+use Rattle.grid_file.specs.declared.reading.Head.{Head}
+use Rattle.grid_file.specs.declared.reading.Rates.{Rates}
+use Rattle.grid_file.specs.declared.reading.Tail.{Tail}
 use Rattle.grid_file.specs.declared.boxes.CellBox.{CellBox}
 use Rattle.grid_file.specs.Faults.{Check, first}
 use Rattle.grid_file.specs.Values.{dim_in, print_every_in}
-use Rattle.grid_file.specs.Plan.{at_key, key_check, fill_at, refine_at, criterion_at, unlisted, missing, in_tables, dim_of, depth_in, depth_of, base_in, base_of, solver_of, solver_checks, rate_checks, a_of, b_of, wind_of, criterion_checks, list_checks, fill_checks, zone_checks, edge_checks, steps_in, level_of, lower_of, upper_of}
+use Rattle.grid_file.specs.Plan.{at_key, key_check, fill_at, refine_at, criterion_at, unlisted, missing, in_tables, dim_of, depth_in, depth_of, base_in, base_of, solver_of, solver_checks, rate_checks, a_of, b_of, wind_of, criterion_checks, list_checks, fill_checks, zone_checks, edge_checks, edge_of, steps_in, steps_of, print_every_of, level_of, lower_of, upper_of}
 
 -- the code of a pass, and what it checks in a table
 abbrev pub code_of : Pass → ℕ
@@ -53,3 +54,7 @@ rates_of dim t = record { a = pos (a_of t); b = pos (b_of t); wind = wind_of dim
 -- a box of cells of one level
 abbrev pub box_of : dims.Dim → ℕ → Members → CellBox
 box_of dim depth t = record { level = level_of depth t; from = lower_of dim (level_of depth t) t; to = upper_of dim (level_of depth t) (lower_of dim (level_of depth t) t) t }
+
+-- what a file says last
+abbrev pub tail_of : SolverName → Members → Tail
+tail_of solver t = record { edge = edge_of solver t; steps = steps_of t; print_every = print_every_of t }

@@ -7,6 +7,7 @@ mod keys;
 mod place;
 mod plain;
 mod plan;
+mod reading;
 mod solver;
 mod text;
 mod tree;

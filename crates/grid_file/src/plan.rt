@@ -4,27 +4,9 @@ ghost use Rattle.grid_file.specs.Faults.{Reads};
 ghost use Rattle.grid_file.specs.Plan.{plan_of, printed};
 
 use crate::fault::PlanFault;
-use crate::solver::{SolverForm, SolverName};
-use peano_keys::Dim;
+use crate::solver::SolverForm;
 use spacetree::{Fill, Listed, Shape};
 use std::alloc::Global;
-
-/// What a file says first, on which the rest depends.
-#[derive(Clone, Copy)]
-pub struct Head {
-    pub dim: Dim,
-    pub depth: u32,
-    pub base: u32,
-    pub solver: SolverName,
-}
-
-/// The numbers of a solver, 0 where it does not take them.
-#[derive(Clone, Copy)]
-pub struct Rates {
-    pub a: i64,
-    pub b: i64,
-    pub wind: [i64; 3],
-}
 
 /// What a file asks for: the opening grid, the boxes of the opening field, the solver, how many steps are taken,
 /// and which of them are printed besides the last.
