@@ -1,5 +1,5 @@
 -- What the solvers compute, over integers without bounds; a new value that leaves the range of `i64` makes the new state none.
-use Rattle.std.specs.Prelude.{ℕ, ℤ, pos, negsuc, ◌^◌, ◌+ℤ◌, ◌-ℤ◌, ◌*ℤ◌, int_le, nat_lt, List, [], ◌∷◌, map, slice_index_or, Option, Some, None, if◌then◌else◌}
+use Rattle.std.specs.Prelude.{ℕ, ℤ, pos, negsuc, ◌^◌, ◌+ℤ◌, ◌-ℤ◌, ◌*ℤ◌, int_le, nat_lt, List, [], ◌∷◌, map, Option, Some, None, if◌then◌else◌}
 use Rattle.std.specs.Int.{int_div_euclid}
 use Rattle.peano_keys.specs.declared.dim.Dim.{Dim}
 use Rattle.peano_keys.specs.declared.dim.Dim.TheVariants.{Two, Three}
@@ -60,9 +60,13 @@ change k own sides level = int_div_euclid ((k.a *ℤ pos (9 ^ level)) *ℤ rises
 abbrev pub diffused : Laplacian → State → Sides → ℕ → Option State
 diffused k own sides level = single_of (fitted (value_at own 0 +ℤ change k own sides level))
 
--- a wave: the speed, which stands second, moves by the change, and the value by the new speed
+-- a wave's speed, which stands second, moves by the change
+abbrev pub new_speed : Laplacian → State → Sides → ℕ → ℤ
+new_speed k own sides level = value_at own 1 +ℤ change k own sides level
+
+-- a wave: and its value moves by the new speed
 abbrev pub waved : Laplacian → State → Sides → ℕ → Option State
-waved k own sides level = let speed = value_at own 1 +ℤ change k own sides level in pair_of (fitted (value_at own 0 +ℤ speed)) (fitted speed)
+waved k own sides level = pair_of (fitted (value_at own 0 +ℤ new_speed k own sides level)) (fitted (new_speed k own sides level))
 
 -- how far the leaf's value lies above that across the low face, or the value across the high face above the leaf's, whichever the wind comes from
 abbrev pub upwind_rise : ℤ → EdgeRule → State → Side → Side → ℤ

@@ -1,2 +1,4 @@
 pub mod Ranges
 pub mod Kernel
+pub mod Counts
+pub mod Any

@@ -4,7 +4,8 @@ ghost use Rattle.std.specs.Int.{int_div_euclid};
 ghost use Rattle.std.specs.Int.RustNames.{unsigned_abs};
 ghost use Rattle.peano_keys.specs.State.{value_at};
 ghost use Rattle.volume_solver.specs.Ranges.{IsDivisor};
-ghost use Rattle.volume_solver.specs.Kernel.{fitted};
+ghost use Rattle.volume_solver.specs.Kernel.{fitted, single_of, pair_of};
+ghost use Rattle.volume_solver.specs.Counts.{AnswerHas};
 
 use peano_keys::State;
 
@@ -67,11 +68,33 @@ pub(crate) fn quotient(number: i128, b: i64) -> i128
 }
 
 // A number as an `i64`, none where it is none.
-pub(crate) fn fitted(number: i128) -> Option<i64>
+fn fitted(number: i128) -> Option<i64>
     ensures { result ≡ fitted number }
 {
     match i64::try_from(number) {
         Ok(value) => Some(value),
         Err(_) => None,
+    }
+}
+
+// The state of one number, none where it is no `i64`.
+pub(crate) fn single(number: i128) -> Option<State>
+    ensures value { result ≡ single_of (fitted number) }
+    ensures parts { AnswerHas 1 result }
+{
+    match fitted(number) {
+        Some(value) => Some(State::Single(value)),
+        None => None,
+    }
+}
+
+// The state of two numbers, none where one of them is no `i64`.
+pub(crate) fn pair(first: i128, second: i128) -> Option<State>
+    ensures value { result ≡ pair_of (fitted first) (fitted second) }
+    ensures parts { AnswerHas 2 result }
+{
+    match (fitted(first), fitted(second)) {
+        (Some(value), Some(speed)) => Some(State::Pair(value, speed)),
+        _ => None,
     }
 }
