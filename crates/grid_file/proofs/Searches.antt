@@ -1,11 +1,17 @@
 -- Searches over lists of checks, and the least fault of a list whose codes rise.
 use Rattle.std.proofs.lemmas.Bool.{false≢true}
 use Rattle.std.specs.Option.{option_or, is_some}
-use Rattle.std.proofs.Common.{◌≡◌, ℕ, ◌≤◌, List, [], ◌∷◌, ◌++◌, Option, Some, None, Bool, true, false, cond, refl, ap, sym, ◌∙◌, ◌<◌, arith, nat_le, IfSome}
+use Rattle.std.proofs.Common.{◌≡◌, ℕ, ◌≤◌, List, [], ◌∷◌, ◌++◌, Option, Some, None, Bool, true, false, cond, refl, ap, sym, ◌∙◌, ◌<◌, arith, nat_le, IfSome, ◌&&◌}
 use Rattle.std.proofs.lemmas.Bool.Decides.{nat_tests}
 use Rattle.grid_file.specs.declared.place.Place.{Place}
 use Rattle.grid_file.specs.declared.fault.Malformed.{Malformed}
-use Rattle.grid_file.specs.Faults.{Check, Fault, first, malformed, coded, least, lesser}
+use Rattle.grid_file.specs.Faults.{Check, Fault, Step, first, first_in, malformed, coded, faults_of, least, lesser}
+use Rattle.toml.specs.Data.{Members}
+use Rattle.grid_file.specs.declared.place.Part.TheVariants.{Document}
+use Rattle.grid_file.specs.declared.place.KeyName.TheVariants.{Dim, Depth, Base}
+use Rattle.grid_file.specs.Values.{dim_in}
+use Rattle.grid_file.specs.Plan.{at_key, key_check, in_tables, unlisted, missing, depth_in, base_in, solver_checks, dim_of, depth_of, solver_of, steps, faults}
+use Rattle.grid_file.specs.Stages.{first_fault, body_fault}
 
 pub first_append : (code : ℕ) (a b : List Check) → first code (a ++ b) ≡ option_or (first code a) (first code b)
 first_append code [] b = refl
@@ -45,30 +51,51 @@ lower : (low next : ℕ) (fs : List Fault) → low ≤ next → CodesFrom next f
 lower low next [] h k = tt
 lower low next (f ∷ fs) h k = (omega (arith, h, k.0), lower low next fs h k.1)
 
+both_first : (a b : Bool) → (a && b) ≡ true → a ≡ true
+both_first true b h = refl
+both_first false b h = h
+
+both_second : (a b : Bool) → (a && b) ≡ true → b ≡ true
+both_second true b h = h
+both_second false b h = absurd (false≢true h)
+
+le_of_nat_le : (m n : ℕ) → nat_le m n ≡ true → m ≤ n
+le_of_nat_le m n h = grind (arith, nat_tests)
+
 -- the faults of one code before those of greater codes
 least_coded : (code : ℕ) (cs : List Check) (rest : List Fault) → CodesFrom code rest → least (coded code cs ++ rest) ≡ option_or (first code cs) (least rest)
 least_coded code [] rest h = refl
 least_coded code (c ∷ cs) rest h = elim c.refused as (λ b. cond b (Some (lesser (malformed code c.place) (least (coded code cs ++ rest)))) (least (coded code cs ++ rest)) ≡ option_or (cond b (Some (malformed code c.place)) (first code cs)) (least rest)) [ true ↦ ap Some (lesser_of_greater (malformed code c.place) (least (coded code cs ++ rest)) (least_from code (coded code cs ++ rest) (codes_from_coded code code cs rest (code_itself code) h))) | false ↦ least_coded code cs rest h ]
 
--- the least fault of a list whose codes rise is the first
-abbrev pub Rises : ℕ → List Fault → Option Malformed → Type 0
-Rises low fs found = CodesFrom low fs × (least fs ≡ found)
+-- whether the codes rise from a number on
+abbrev pub rise : ℕ → List Step → Bool
+rise low [] = true
+rise low (s ∷ ss) = nat_le low s.code && rise s.code ss
 
-pub rises : (code next : ℕ) (cs : List Check) (rest : List Fault) (found : Option Malformed) → code ≤ next → Rises next rest found → Rises code (coded code cs ++ rest) (option_or (first code cs) found)
-rises code next cs rest found h k =
-    let below = lower code next rest h k.0 in
-    (codes_from_coded code code cs rest (code_itself code) below, least_coded code cs rest below ∙ ap (option_or (first code cs)) k.1)
+codes_rise : (low : ℕ) (ss : List Step) → rise low ss ≡ true → CodesFrom low (faults_of ss)
+codes_rise low [] h = tt
+codes_rise low (s ∷ ss) h =
+    let le : low ≤ s.code = le_of_nat_le low s.code (both_first (nat_le low s.code) (rise s.code ss) h) in
+    codes_from_coded low s.code s.checks (faults_of ss) le (lower low s.code (faults_of ss) le (codes_rise s.code ss (both_second (nat_le low s.code) (rise s.code ss) h)))
 
-pub last_rises : (code : ℕ) (cs : List Check) → Rises code (coded code cs) (first code cs)
-last_rises code [] = (tt, refl)
-last_rises code (c ∷ cs) =
-    let k = last_rises code cs in
-    ((code_itself code, k.0),
-    elim c.refused as (λ b. cond b (Some (lesser (malformed code c.place) (least (coded code cs)))) (least (coded code cs)) ≡ cond b (Some (malformed code c.place)) (first code cs)) [ true ↦ ap Some (lesser_of_greater (malformed code c.place) (least (coded code cs)) (least_from code (coded code cs) k.0)) | false ↦ k.1 ])
+-- where the codes rise, the least fault is the first
+pub least_rising : (low : ℕ) (ss : List Step) → rise low ss ≡ true → least (faults_of ss) ≡ first_in ss
+least_rising low [] h = refl
+least_rising low (s ∷ ss) h =
+    let more = both_second (nat_le low s.code) (rise s.code ss) h in
+    least_coded s.code s.checks (faults_of ss) (codes_rise s.code ss more) ∙ ap (option_or (first s.code s.checks)) (least_rising s.code ss more)
 
 -- four options before another
-pub four_before : {T : Type 0} (a b c d e : Option T) → option_or a (option_or b (option_or c (option_or d e))) ≡ option_or (option_or a (option_or b (option_or c d))) e
+pub four_before : {T : Type 0} (a b c d e : Option T) → option_or a (option_or b (option_or c (option_or d e))) ≡ option_or (option_or a (option_or b (option_or c (option_or d None)))) e
 four_before (Some x) b c d e = refl
 four_before None (Some x) c d e = refl
 four_before None None (Some x) d e = refl
-four_before None None None d e = refl
+four_before None None None (Some x) e = refl
+four_before None None None None e = refl
+
+-- the least fault of a document is the first that is looked for
+pub least_is_first : (t : Members) → least (faults t) ≡ first_fault t
+least_is_first t =
+    least_rising 0 (steps (dim_of t) (depth_of t) (solver_of t) t) refl
+    ∙ ap (λ o. option_or (first 2 (in_tables unlisted t)) (option_or (first 3 (in_tables missing t)) o))
+      (four_before (first 4 (key_check Document 0 Dim (dim_in (at_key Dim t)) ∷ [])) (first 5 (key_check Document 0 Depth (depth_in t) ∷ [])) (first 6 (key_check Document 0 Base (base_in (depth_of t) t) ∷ [])) (first 7 (solver_checks t)) (body_fault (dim_of t) (depth_of t) (solver_of t) t))

@@ -1,5 +1,6 @@
 -- Which refusal a file gets: the least code that applies, and in that code the first place.
-use Rattle.std.specs.Prelude.{ℕ, Bool, true, false, List, [], ◌∷◌, Option, Some, None, if◌then◌else◌, nat_le, Result, Ok, Err, ◌≡◌}
+use Rattle.std.specs.Prelude.{ℕ, Bool, true, false, List, [], ◌∷◌, ◌++◌, Option, Some, None, if◌then◌else◌, nat_le, Result, Ok, Err, ◌≡◌}
+use Rattle.std.specs.Option.{option_or}
 use Rattle.grid_file.specs.declared.place.Place.{Place}
 use Rattle.grid_file.specs.declared.fault.Malformed.{Malformed}
 use Rattle.grid_file.specs.declared.fault.PlanFault.{PlanFault}
@@ -26,6 +27,19 @@ abbrev pub coded : ℕ → List Check → List Fault
 coded code [] = []
 coded code (c ∷ cs) = record { malformed = malformed code c.place; applies = c.refused } ∷ coded code cs
 
+-- a code, and what is checked for it, in order
+pub record Step : Type 0 where
+  pub code : ℕ
+  pub checks : List Check
+
+abbrev pub step : ℕ → List Check → Step
+step code checks = record { code = code; checks = checks }
+
+-- the faults of some codes, one code after another
+abbrev pub faults_of : List Step → List Fault
+faults_of [] = []
+faults_of (s ∷ ss) = coded s.code s.checks ++ faults_of ss
+
 -- of a fault and one further on in the list: that of the smaller code, the former where the codes are equal
 abbrev pub lesser : Malformed → Option Malformed → Malformed
 lesser m None = m
@@ -40,6 +54,11 @@ least (f ∷ fs) = if f.applies then Some (lesser f.malformed (least fs)) else l
 abbrev pub first : ℕ → List Check → Option Malformed
 first code [] = None
 first code (c ∷ cs) = if c.refused then Some (malformed code c.place) else first code cs
+
+-- the first that is refused in some codes
+abbrev pub first_in : List Step → Option Malformed
+first_in [] = None
+first_in (s ∷ ss) = option_or (first s.code s.checks) (first_in ss)
 
 -- a value where nothing is refused, else the refusal
 abbrev pub judged : {T : Type 0} → Option Malformed → T → Result T Malformed

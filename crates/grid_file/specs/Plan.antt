@@ -22,7 +22,7 @@ use Rattle.grid_file.specs.declared.solver.SolverForm.{SolverForm}
 use Rattle.grid_file.specs.declared.plan.Plan.{Plan}
 use Rattle.grid_file.specs.Tree.{tree_of, number_in, has_only}
 use Rattle.grid_file.specs.Places.{spelled, place_of, document_key}
-use Rattle.grid_file.specs.Faults.{Check, Fault, check, malformed, coded, least, judged}
+use Rattle.grid_file.specs.Faults.{Check, Fault, Step, check, malformed, step, faults_of, least, judged}
 use Rattle.grid_file.specs.Values.{number_or, dim_in, solver_in, parts_of, takes_a, takes_wind, wind_in, from_in, to_in, state_in, fixed_in, edge_in, print_every_in, list_in, table_at}
 
 -- what stands at a key of a table
@@ -252,25 +252,27 @@ read_each read (item d rest) = put_before read (as_table d) (read_each read rest
 abbrev pub list_checks : Part → (ℕ → Members → List Check) → Option Data → List Check
 list_checks part checks d = key_check part 0 Whole (list_in d) ∷ in_each checks 0 (listed d)
 
--- every fault of a document, code by code, and in each code in the order of its places
-abbrev pub faults_from : dims.Dim → ℕ → SolverName → Members → List Fault
-faults_from dim depth solver t =
-    coded 2 (in_tables unlisted t)
-    ++ (coded 3 (in_tables missing t)
-    ++ (coded 4 (key_check Document 0 Dim (dim_in (at_key Dim t)) ∷ [])
-    ++ (coded 5 (key_check Document 0 Depth (depth_in t) ∷ [])
-    ++ (coded 6 (key_check Document 0 Base (base_in depth t) ∷ [])
-    ++ (coded 7 (solver_checks t)
-    ++ (coded 8 (rate_checks dim t)
-    ++ (coded 9 (criterion_checks solver (criterion_at t))
-    ++ (coded 10 (list_checks FillList (fill_checks dim depth solver) (fill_at t))
-    ++ (coded 11 (list_checks RefineList (zone_checks dim depth) (refine_at t))
-    ++ (coded 12 (edge_checks solver t)
-    ++ (coded 13 (key_check Document 0 Steps (steps_in t) ∷ [])
-    ++ coded 14 (key_check Document 0 PrintEvery (print_every_in (at_key PrintEvery t)) ∷ []))))))))))))
+-- what is checked for each code, in the order of its places
+abbrev pub steps : dims.Dim → ℕ → SolverName → Members → List Step
+steps dim depth solver t =
+    step 2 (in_tables unlisted t)
+    ∷ step 3 (in_tables missing t)
+    ∷ step 4 (key_check Document 0 Dim (dim_in (at_key Dim t)) ∷ [])
+    ∷ step 5 (key_check Document 0 Depth (depth_in t) ∷ [])
+    ∷ step 6 (key_check Document 0 Base (base_in depth t) ∷ [])
+    ∷ step 7 (solver_checks t)
+    ∷ step 8 (rate_checks dim t)
+    ∷ step 9 (criterion_checks solver (criterion_at t))
+    ∷ step 10 (list_checks FillList (fill_checks dim depth solver) (fill_at t))
+    ∷ step 11 (list_checks RefineList (zone_checks dim depth) (refine_at t))
+    ∷ step 12 (edge_checks solver t)
+    ∷ step 13 (key_check Document 0 Steps (steps_in t) ∷ [])
+    ∷ step 14 (key_check Document 0 PrintEvery (print_every_in (at_key PrintEvery t)) ∷ [])
+    ∷ []
 
+-- every fault of a document
 abbrev pub faults : Members → List Fault
-faults t = faults_from (dim_of t) (depth_of t) (solver_of t) t
+faults t = faults_of (steps (dim_of t) (depth_of t) (solver_of t) t)
 
 -- the solver of a document
 abbrev pub form_of : dims.Dim → ℕ → SolverName → Members → SolverForm

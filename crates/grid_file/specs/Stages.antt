@@ -14,7 +14,7 @@ use Rattle.grid_file.specs.declared.reading.Head.{Head}
 use Rattle.grid_file.specs.declared.reading.Rates.{Rates}
 use Rattle.grid_file.specs.declared.reading.Tail.{Tail}
 use Rattle.grid_file.specs.declared.boxes.CellBox.{CellBox}
-use Rattle.grid_file.specs.Faults.{Check, first}
+use Rattle.grid_file.specs.Faults.{Check, first, first_in, step}
 use Rattle.grid_file.specs.Values.{dim_in, print_every_in}
 use Rattle.grid_file.specs.Plan.{at_key, key_check, fill_at, refine_at, criterion_at, unlisted, missing, in_tables, dim_of, depth_in, depth_of, base_in, base_of, solver_of, solver_checks, rate_checks, a_of, b_of, wind_of, criterion_checks, list_checks, fill_checks, zone_checks, edge_checks, edge_of, steps_in, steps_of, print_every_of, level_of, lower_of, upper_of}
 
@@ -29,7 +29,7 @@ checks_of Missing = missing
 
 -- the first of codes 4 to 7
 abbrev pub head_fault : Members → Option Malformed
-head_fault t = option_or (first 4 (key_check Document 0 Dim (dim_in (at_key Dim t)) ∷ [])) (option_or (first 5 (key_check Document 0 Depth (depth_in t) ∷ [])) (option_or (first 6 (key_check Document 0 Base (base_in (depth_of t) t) ∷ [])) (first 7 (solver_checks t))))
+head_fault t = first_in (step 4 (key_check Document 0 Dim (dim_in (at_key Dim t)) ∷ []) ∷ step 5 (key_check Document 0 Depth (depth_in t) ∷ []) ∷ step 6 (key_check Document 0 Base (base_in (depth_of t) t) ∷ []) ∷ step 7 (solver_checks t) ∷ [])
 
 -- what a file says first
 abbrev pub head_of : Members → Head
@@ -37,7 +37,7 @@ head_of t = record { dim = dim_of t; depth = depth_of t; base = base_of (depth_o
 
 -- the first of codes 12 to 14
 abbrev pub tail_fault : SolverName → Members → Option Malformed
-tail_fault solver t = option_or (first 12 (edge_checks solver t)) (option_or (first 13 (key_check Document 0 Steps (steps_in t) ∷ [])) (first 14 (key_check Document 0 PrintEvery (print_every_in (at_key PrintEvery t)) ∷ [])))
+tail_fault solver t = first_in (step 12 (edge_checks solver t) ∷ step 13 (key_check Document 0 Steps (steps_in t) ∷ []) ∷ step 14 (key_check Document 0 PrintEvery (print_every_in (at_key PrintEvery t)) ∷ []) ∷ [])
 
 -- the first of codes 8 to 14
 abbrev pub body_fault : dims.Dim → ℕ → SolverName → Members → Option Malformed
