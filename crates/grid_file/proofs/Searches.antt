@@ -1,16 +1,18 @@
 -- Searches over lists of checks, and the least fault of a list whose codes rise.
 use Rattle.std.proofs.lemmas.Bool.{false≢true}
 use Rattle.std.specs.Option.{option_or, is_some}
-use Rattle.std.proofs.Common.{◌≡◌, ℕ, ◌≤◌, List, [], ◌∷◌, ◌++◌, Option, Some, None, Bool, true, false, cond, refl, ap, sym, ◌∙◌, ◌<◌, arith, nat_le, IfSome, ◌&&◌}
+use Rattle.std.proofs.Common.{◌≡◌, ℕ, ◌≤◌, List, [], ◌∷◌, ◌++◌, Option, Some, None, Bool, true, false, cond, refl, ap, sym, ◌∙◌, ◌<◌, arith, nat_le, IfSome, ◌&&◌, Result, Ok, Err}
 use Rattle.std.proofs.lemmas.Bool.Decides.{nat_tests}
 use Rattle.grid_file.specs.declared.place.Place.{Place}
 use Rattle.grid_file.specs.declared.fault.Malformed.{Malformed}
-use Rattle.grid_file.specs.Faults.{Check, Fault, Step, first, first_in, malformed, coded, faults_of, least, lesser}
+use Rattle.grid_file.specs.declared.fault.PlanFault.{PlanFault}
+use Rattle.grid_file.specs.declared.plan.Plan.{Plan}
+use Rattle.grid_file.specs.Faults.{Check, Fault, Step, first, first_in, malformed, coded, faults_of, least, lesser, judged, Gives, Reads}
 use Rattle.toml.specs.Data.{Members}
 use Rattle.grid_file.specs.declared.place.Part.TheVariants.{Document}
 use Rattle.grid_file.specs.declared.place.KeyName.TheVariants.{Dim, Depth, Base}
 use Rattle.grid_file.specs.Values.{dim_in}
-use Rattle.grid_file.specs.Plan.{at_key, key_check, in_tables, unlisted, missing, depth_in, base_in, solver_checks, dim_of, depth_of, solver_of, steps, faults}
+use Rattle.grid_file.specs.Plan.{at_key, key_check, in_tables, unlisted, missing, depth_in, base_in, solver_checks, dim_of, depth_of, solver_of, steps, faults, plan_in}
 use Rattle.grid_file.specs.Stages.{first_fault, body_fault}
 
 pub first_append : (code : ℕ) (a b : List Check) → first code (a ++ b) ≡ option_or (first code a) (first code b)
@@ -98,4 +100,9 @@ pub least_is_first : (t : Members) → least (faults t) ≡ first_fault t
 least_is_first t =
     least_rising 0 (steps (dim_of t) (depth_of t) (solver_of t) t) refl
     ∙ ap (λ o. option_or (first 2 (in_tables unlisted t)) (option_or (first 3 (in_tables missing t)) o))
-      (four_before (first 4 (key_check Document 0 Dim (dim_in (at_key Dim t)) ∷ [])) (first 5 (key_check Document 0 Depth (depth_in t) ∷ [])) (first 6 (key_check Document 0 Base (base_in (depth_of t) t) ∷ [])) (first 7 (solver_checks t)) (body_fault (dim_of t) (depth_of t) (solver_of t) t))
+    (four_before (first 4 (key_check Document 0 Dim (dim_in (at_key Dim t)) ∷ [])) (first 5 (key_check Document 0 Depth (depth_in t) ∷ [])) (first 6 (key_check Document 0 Base (base_in (depth_of t) t) ∷ [])) (first 7 (solver_checks t)) (body_fault (dim_of t) (depth_of t) (solver_of t) t))
+
+-- what a document gives by the first fault, it gives by the least
+pub reads_least : (t : Members) (r : Result Plan PlanFault) → Gives r (first_fault t) (plan_in t) → Reads r (judged (least (faults t)) (plan_in t))
+reads_least t (Ok p) h = ap (λ o. judged o (plan_in t)) (least_is_first t ∙ h.0) ∙ ap Ok h.1
+reads_least t (Err fault) h = λ m e. ap (λ o. judged o (plan_in t)) (least_is_first t ∙ h m e)

@@ -48,7 +48,7 @@ pub struct Tail {
 }
 
 // The place of a key of the document.
-fn document_key(key: KeyName) -> Place
+pub fn document_key(key: KeyName) -> Place
     ensures { result ≡ document_key key }
 {
     Place {
@@ -84,8 +84,10 @@ fn takes_a(solver: SolverName) -> bool
 fn named_solver(document: &Table) -> Result<SolverName, PlanFault>
     ensures { Gives result (first 7 (solver_checks (table_view document.now))) (solver_of (table_view document.now)) }
 {
-    let name = solver(at(document, KeyName::Solver))
-        .ok_or(refused(7, document_key(KeyName::Solver)))?;
+    let name = solver(at(document, KeyName::Solver)).ok_or(refused(
+        7,
+        document_key(KeyName::Solver),
+    ))?;
     if at(document, KeyName::A).is_some() != takes_a(name) {
         return Err(refused(7, document_key(KeyName::A)));
     }
@@ -101,10 +103,14 @@ pub fn read_head(document: &Table) -> Result<Head, PlanFault>
     ensures depth { IfOk result (λ h. h.depth ≤ 8) }
 {
     let dim = dim(at(document, KeyName::Dim)).ok_or(refused(4, document_key(KeyName::Dim)))?;
-    let depth = number(at(document, KeyName::Depth), 0, 8)
-        .ok_or(refused(5, document_key(KeyName::Depth)))? as u32;
-    let base = number(at(document, KeyName::Base), 0, u64::from(depth))
-        .ok_or(refused(6, document_key(KeyName::Base)))? as u32;
+    let depth = number(at(document, KeyName::Depth), 0, 8).ok_or(refused(
+        5,
+        document_key(KeyName::Depth),
+    ))? as u32;
+    let base = number(at(document, KeyName::Base), 0, u64::from(depth)).ok_or(refused(
+        6,
+        document_key(KeyName::Base),
+    ))? as u32;
     let solver = named_solver(document)?;
     Ok(Head {
         dim,
@@ -118,14 +124,22 @@ pub fn read_head(document: &Table) -> Result<Head, PlanFault>
 fn read_rates(dim: Dim, document: &Table) -> Result<Rates, PlanFault>
     ensures { Gives result (first 8 (rate_checks dim (table_view document.now))) (rates_of dim (table_view document.now)) }
 {
-    number_or(1, 1, 1, at(document, KeyName::Version))
-        .ok_or(refused(8, document_key(KeyName::Version)))?;
-    let a = number_or(0, 0, 1_000_000, at(document, KeyName::A))
-        .ok_or(refused(8, document_key(KeyName::A)))?;
-    let b = number(at(document, KeyName::B), 1, 1_000_000_000_000_000_000)
-        .ok_or(refused(8, document_key(KeyName::B)))?;
-    let wind = wind(dim, at(document, KeyName::Wind))
-        .ok_or(refused(8, document_key(KeyName::Wind)))?;
+    number_or(1, 1, 1, at(document, KeyName::Version)).ok_or(refused(
+        8,
+        document_key(KeyName::Version),
+    ))?;
+    let a = number_or(0, 0, 1_000_000, at(document, KeyName::A)).ok_or(refused(
+        8,
+        document_key(KeyName::A),
+    ))?;
+    let b = number(at(document, KeyName::B), 1, 1_000_000_000_000_000_000).ok_or(refused(
+        8,
+        document_key(KeyName::B),
+    ))?;
+    let wind = wind(dim, at(document, KeyName::Wind)).ok_or(refused(
+        8,
+        document_key(KeyName::Wind),
+    ))?;
     Ok(Rates {
         a: a as i64,
         b: b as i64,
@@ -148,13 +162,16 @@ fn parts(solver: SolverName) -> u32
 fn criterion_in(depth: u32, solver: SolverName, table: &Table) -> Result<Criterion, PlanFault>
     ensures { Gives result (first 9 (criterion_keys solver (table_view table.now))) (criterion_with depth solver (table_view table.now)) }
 {
-    let hi = number(at(table, KeyName::Hi), 1, 9_223_372_036_854_775_807)
-        .ok_or(refused(9, criterion_key(KeyName::Hi)))?;
-    let lo = number(at(table, KeyName::Lo), 0, hi)
-        .ok_or(refused(9, criterion_key(KeyName::Lo)))?;
+    let hi = number(at(table, KeyName::Hi), 1, 9_223_372_036_854_775_807).ok_or(refused(
+        9,
+        criterion_key(KeyName::Hi),
+    ))?;
+    let lo = number(at(table, KeyName::Lo), 0, hi).ok_or(refused(9, criterion_key(KeyName::Lo)))?;
     let most = u64::from(parts(solver) - 1);
-    let watch = number_or(0, 0, most, at(table, KeyName::Watch))
-        .ok_or(refused(9, criterion_key(KeyName::Watch)))?;
+    let watch = number_or(0, 0, most, at(table, KeyName::Watch)).ok_or(refused(
+        9,
+        criterion_key(KeyName::Watch),
+    ))?;
     Ok(Criterion {
         hi: hi as i64,
         lo: lo as i64,
@@ -164,7 +181,11 @@ fn criterion_in(depth: u32, solver: SolverName, table: &Table) -> Result<Criteri
 }
 
 // The criterion of a file, none where there is no such key.
-fn criterion(depth: u32, solver: SolverName, found: Option<&Value>) -> Result<Option<Criterion>, PlanFault>
+fn criterion(
+    depth: u32,
+    solver: SolverName,
+    found: Option<&Value>,
+) -> Result<Option<Criterion>, PlanFault>
     ensures { Gives result (first 9 (criterion_checks solver (option_map (λ v. view v.now) found.entry))) (criterion_of depth solver (option_map (λ v. view v.now) found.entry)) }
 {
     if found.is_none() {
@@ -183,10 +204,11 @@ fn criterion(depth: u32, solver: SolverName, found: Option<&Value>) -> Result<Op
 fn edge_rule(solver: SolverName, document: &Table) -> Result<EdgeRule, PlanFault>
     ensures { Gives result (first 12 (edge_checks solver (table_view document.now))) (edge_of solver (table_view document.now)) }
 {
-    let fixed = fixed(at(document, KeyName::Edge))
-        .ok_or(refused(12, document_key(KeyName::Edge)))?;
-    edge(solver, fixed, at(document, KeyName::EdgeValue))
-        .ok_or(refused(12, document_key(KeyName::EdgeValue)))
+    let fixed = fixed(at(document, KeyName::Edge)).ok_or(refused(12, document_key(KeyName::Edge)))?;
+    edge(solver, fixed, at(document, KeyName::EdgeValue)).ok_or(refused(
+        12,
+        document_key(KeyName::EdgeValue),
+    ))
 }
 
 // What a file says last.
@@ -194,10 +216,14 @@ fn read_tail(solver: SolverName, document: &Table) -> Result<Tail, PlanFault>
     ensures { Gives result (tail_fault solver (table_view document.now)) (tail_of solver (table_view document.now)) }
 {
     let edge = edge_rule(solver, document)?;
-    let steps = number(at(document, KeyName::Steps), 0, 10_000)
-        .ok_or(refused(13, document_key(KeyName::Steps)))? as u32;
-    let print_every = print_every(at(document, KeyName::PrintEvery))
-        .ok_or(refused(14, document_key(KeyName::PrintEvery)))?;
+    let steps = number(at(document, KeyName::Steps), 0, 10_000).ok_or(refused(
+        13,
+        document_key(KeyName::Steps),
+    ))? as u32;
+    let print_every = print_every(at(document, KeyName::PrintEvery)).ok_or(refused(
+        14,
+        document_key(KeyName::PrintEvery),
+    ))?;
     Ok(Tail {
         edge,
         steps,

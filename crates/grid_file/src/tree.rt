@@ -1,11 +1,28 @@
 //! What stands in a document: numbers in a range, corners of boxes, tables with no other keys.
-ghost use Rattle.std.specs.Prelude.{◌≡◌, ◌≤◌, IfSome, length, option_map, option_copied, slice_index};
+ghost use Rattle.std.specs.Prelude.{◌≡◌, ◌≤◌, IfOk, IfSome, length, option_map, option_copied, slice_index};
 ghost use Rattle.toml.specs.Data.{get_member};
 ghost use Rattle.toml.specs.View.{view, table_view, items_view};
-ghost use Rattle.grid_file.specs.Tree.{whole_in, number_in, corner_in};
+ghost use Rattle.grid_file.specs.Tree.{tree_of, whole_in, number_in, corner_in};
 ghost use Rattle.grid_file.specs.Values.{number_or, items_at, text_at, table_at, are_tables, tables_within, list_in};
 
+use std::alloc::{AllocError, Global};
 use toml::{Table, Value};
+
+// The tree of the bytes, none where they are no document.
+pub fn tree(alloc: Global, text: &[u8]) -> Result<Option<Table>, AllocError>
+    ensures { IfOk result (λ tree. option_map table_view tree ≡ tree_of text.now) }
+{
+    match toml::table_from_slice(alloc, text) {
+        Ok(table) => Ok(Some(table)),
+        Err(fault) => {
+            if fault.is_memory() {
+                Err(AllocError)
+            } else {
+                Ok(None)
+            }
+        }
+    }
+}
 
 // What stands at a key.
 pub fn entry<'a>(table: &'a Table, key: &str) -> Option<&'a Value>
