@@ -17,8 +17,9 @@ use Rattle.grid_file.specs.declared.place.KeyName.{KeyName}
 use Rattle.grid_file.specs.declared.place.KeyName.TheVariants.{Whole, Version, Dim, Depth, Base, Solver, A, B, Wind, Edge, EdgeValue, Steps, PrintEvery, Hi, Lo, Watch, Level, From, To, Value, Until}
 use Rattle.grid_file.specs.declared.fault.Malformed.{Malformed}
 use Rattle.grid_file.specs.declared.solver.SolverName.{SolverName}
-use Rattle.grid_file.specs.declared.solver.SolverName.TheVariants.{Diffuse}
-use Rattle.grid_file.specs.declared.solver.SolverForm.{SolverForm}
+use Rattle.grid_file.specs.declared.solver.SolverName.TheVariants.{Diffuse, Advect, Wave}
+use Rattle.volume_solver.specs.declared.any.AnySolver.{AnySolver}
+use Rattle.volume_solver.specs.declared.any.AnySolver.TheVariants.{Diffuse as Diffusing, Advect as Advecting, Wave as Waving}
 use Rattle.grid_file.specs.declared.plan.Plan.{Plan}
 use Rattle.grid_file.specs.Tree.{tree_of, number_in, has_only}
 use Rattle.grid_file.specs.Places.{spelled, place_of, document_key}
@@ -274,9 +275,14 @@ steps dim depth solver t =
 abbrev pub faults : Members → List Fault
 faults t = faults_of (steps (dim_of t) (depth_of t) (solver_of t) t)
 
--- the solver of a document
-abbrev pub form_of : dims.Dim → ℕ → SolverName → Members → SolverForm
-form_of dim depth solver t = record { name = solver; dim = dim; a = pos (a_of t); b = pos (b_of t); wind = wind_of dim t; edge = edge_of solver t; watch = criterion_of depth solver (criterion_at t) }
+-- the solver of a name with its numbers; `diffuse` and `wave` take `a`, `advect` takes `wind`
+abbrev pub solver_from : SolverName → dims.Dim → ℤ → ℤ → List ℤ → EdgeRule → Option criteria.Criterion → AnySolver
+solver_from Diffuse dim a b wind edge watch = Diffusing (record { dim = dim; a = a; b = b; edge = edge; watch = watch })
+solver_from Advect dim a b wind edge watch = Advecting (record { dim = dim; wind = wind; b = b; edge = edge; watch = watch })
+solver_from Wave dim a b wind edge watch = Waving (record { dim = dim; a = a; b = b; edge = edge; watch = watch })
+
+abbrev pub solver_with : dims.Dim → ℕ → SolverName → Members → AnySolver
+solver_with dim depth solver t = solver_from solver dim (pos (a_of t)) (pos (b_of t)) (wind_of dim t) (edge_of solver t) (criterion_of depth solver (criterion_at t))
 
 -- the plan of a document in which nothing is refused
 abbrev pub plan_from : dims.Dim → ℕ → SolverName → Members → Plan
@@ -284,7 +290,7 @@ plan_from dim depth solver t =
     record {
       shape = record { dim = dim; depth = depth; base = base_of depth t; zones = read_each (zone_from dim depth) (listed (refine_at t)) };
       fills = read_each (fill_from dim depth solver) (listed (fill_at t));
-      solver = form_of dim depth solver t;
+      solver = solver_with dim depth solver t;
       steps = steps_of t;
       print_every = print_every_of t;
     }

@@ -11,7 +11,7 @@ use Rattle.grid_file.specs.declared.keys.Pass.{Pass}
 use Rattle.grid_file.specs.declared.keys.Pass.TheVariants.{Unlisted, Missing}
 use Rattle.grid_file.specs.declared.solver.SolverName.{SolverName}
 use Rattle.grid_file.specs.declared.reading.Head.{Head}
-use Rattle.grid_file.specs.declared.reading.Rates.{Rates}
+use Rattle.grid_file.specs.declared.solver.Rates.{Rates}
 use Rattle.grid_file.specs.declared.reading.Tail.{Tail}
 use Rattle.grid_file.specs.declared.boxes.CellBox.{CellBox}
 use Rattle.grid_file.specs.Faults.{Check, first, first_in, step}

@@ -9,11 +9,11 @@ use crate::fault::{PlanFault, refused};
 use crate::keys::{Pass, found_in_tables};
 use crate::place::KeyName;
 use crate::reading::{document_key, read_body, read_head};
-use crate::solver::SolverForm;
 use crate::tree::tree;
 use spacetree::{Fill, Listed, Shape};
 use std::alloc::Global;
 use toml::Table;
+use volume_solver::AnySolver;
 
 /// What a file asks for: the opening grid, the boxes of the opening field, the solver, how many steps are taken,
 /// and which of them are printed besides the last.
@@ -21,7 +21,7 @@ use toml::Table;
 pub struct Plan {
     pub shape: Shape,
     pub fills: Listed<Fill>,
-    pub solver: SolverForm,
+    pub solver: AnySolver,
     pub steps: u32,
     pub print_every: Option<u32>,
 }

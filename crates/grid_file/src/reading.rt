@@ -1,6 +1,7 @@
 //! The plan of a document, read key by key in the order of the codes.
-ghost use Rattle.std.specs.Prelude.{◌≡◌, ◌≤◌, IfOk, option_map, not};
+ghost use Rattle.std.specs.Prelude.{◌≡◌, ◌≤◌, IfOk, IfSome, option_map, not};
 ghost use Rattle.toml.specs.View.{view, table_view};
+ghost use Rattle.volume_solver.specs.Ranges.{IsFactor, IsDivisor, IsWind, EdgeHas, IsCriterion};
 ghost use Rattle.grid_file.specs.Faults.{Gives, first};
 ghost use Rattle.grid_file.specs.Places.{document_key, place_of};
 ghost use Rattle.grid_file.specs.Values.{takes_a, takes_wind, parts_of};
@@ -12,7 +13,7 @@ use crate::fault::{PlanFault, refused};
 use crate::keys::at;
 use crate::place::{KeyName, Part, Place};
 use crate::plan::Plan;
-use crate::solver::{SolverForm, SolverName};
+use crate::solver::{Rates, SolverName, named};
 use crate::tree::{entry, number, number_or, table};
 use crate::values::{dim, edge, fixed, print_every, solver, wind};
 use peano_keys::Dim;
@@ -29,14 +30,6 @@ pub struct Head {
     pub depth: u32,
     pub base: u32,
     pub solver: SolverName,
-}
-
-/// The numbers of a solver, 0 where it does not take them.
-#[derive(Clone, Copy)]
-pub struct Rates {
-    pub a: i64,
-    pub b: i64,
-    pub wind: [i64; 3],
 }
 
 /// What a file says last: the rule at the domain's edge, and the steps.
@@ -122,7 +115,10 @@ pub fn read_head(document: &Table) -> Result<Head, PlanFault>
 
 // The numbers of the solver.
 fn read_rates(dim: Dim, document: &Table) -> Result<Rates, PlanFault>
-    ensures { Gives result (first 8 (rate_checks dim (table_view document.now))) (rates_of dim (table_view document.now)) }
+    ensures value { Gives result (first 8 (rate_checks dim (table_view document.now))) (rates_of dim (table_view document.now)) }
+    ensures a { IfOk result (λ r. IsFactor r.a) }
+    ensures b { IfOk result (λ r. IsDivisor r.b) }
+    ensures wind { IfOk result (λ r. IsWind r.wind) }
 {
     number_or(1, 1, 1, at(document, KeyName::Version)).ok_or(refused(
         8,
@@ -160,7 +156,9 @@ fn parts(solver: SolverName) -> u32
 
 // The criterion that a table says.
 fn criterion_in(depth: u32, solver: SolverName, table: &Table) -> Result<Criterion, PlanFault>
-    ensures { Gives result (first 9 (criterion_keys solver (table_view table.now))) (criterion_with depth solver (table_view table.now)) }
+    requires { depth ≤ 8 }
+    ensures value { Gives result (first 9 (criterion_keys solver (table_view table.now))) (criterion_with depth solver (table_view table.now)) }
+    ensures ranges { IfOk result (IsCriterion (parts_of solver)) }
 {
     let hi = number(at(table, KeyName::Hi), 1, 9_223_372_036_854_775_807).ok_or(refused(
         9,
@@ -186,7 +184,9 @@ fn criterion(
     solver: SolverName,
     found: Option<&Value>,
 ) -> Result<Option<Criterion>, PlanFault>
-    ensures { Gives result (first 9 (criterion_checks solver (option_map (λ v. view v.now) found.entry))) (criterion_of depth solver (option_map (λ v. view v.now) found.entry)) }
+    requires { depth ≤ 8 }
+    ensures value { Gives result (first 9 (criterion_checks solver (option_map (λ v. view v.now) found.entry))) (criterion_of depth solver (option_map (λ v. view v.now) found.entry)) }
+    ensures ranges { IfOk result (λ watch. IfSome watch (IsCriterion (parts_of solver))) }
 {
     if found.is_none() {
         return Ok(None);
@@ -202,7 +202,8 @@ fn criterion(
 
 // The rule at the domain's edge.
 fn edge_rule(solver: SolverName, document: &Table) -> Result<EdgeRule, PlanFault>
-    ensures { Gives result (first 12 (edge_checks solver (table_view document.now))) (edge_of solver (table_view document.now)) }
+    ensures value { Gives result (first 12 (edge_checks solver (table_view document.now))) (edge_of solver (table_view document.now)) }
+    ensures parts { IfOk result (EdgeHas (parts_of solver)) }
 {
     let fixed = fixed(at(document, KeyName::Edge)).ok_or(refused(12, document_key(KeyName::Edge)))?;
     edge(solver, fixed, at(document, KeyName::EdgeValue)).ok_or(refused(
@@ -213,7 +214,8 @@ fn edge_rule(solver: SolverName, document: &Table) -> Result<EdgeRule, PlanFault
 
 // What a file says last.
 fn read_tail(solver: SolverName, document: &Table) -> Result<Tail, PlanFault>
-    ensures { Gives result (tail_fault solver (table_view document.now)) (tail_of solver (table_view document.now)) }
+    ensures value { Gives result (tail_fault solver (table_view document.now)) (tail_of solver (table_view document.now)) }
+    ensures parts { IfOk result (λ tail. EdgeHas (parts_of solver) tail.edge) }
 {
     let edge = edge_rule(solver, document)?;
     let steps = number(at(document, KeyName::Steps), 0, 10_000).ok_or(refused(
@@ -242,7 +244,7 @@ pub fn read_body(alloc: Global, head: Head, document: &Table) -> Result<Plan, Pl
         base,
         solver,
     } = head;
-    let Rates { a, b, wind } = read_rates(dim, document)?;
+    let rates = read_rates(dim, document)?;
     let watch = criterion(depth, solver, entry(document, "criterion"))?;
     let fills = fills(alloc, dim, depth, solver, entry(document, "fill"))?;
     let zones = zones(alloc, dim, depth, entry(document, "refine"))?;
@@ -259,15 +261,7 @@ pub fn read_body(alloc: Global, head: Head, document: &Table) -> Result<Plan, Pl
             zones,
         },
         fills,
-        solver: SolverForm {
-            name: solver,
-            dim,
-            a,
-            b,
-            wind,
-            edge,
-            watch,
-        },
+        solver: named(solver, dim, rates, edge, watch),
         steps,
         print_every,
     })

@@ -34,6 +34,7 @@ pub fn entry<'a>(table: &'a Table, key: &str) -> Option<&'a Value>
 // The number itself where it is a whole one in a range.
 fn whole(z: i64, low: u64, high: u64) -> Option<u64>
     ensures value { result ≡ whole_in low high z }
+    ensures least { IfSome result (λ n. low ≤ n) }
     ensures most { IfSome result (λ n. n ≤ high) }
 {
     let n = u64::try_from(z).ok()?;
@@ -43,6 +44,7 @@ fn whole(z: i64, low: u64, high: u64) -> Option<u64>
 // An integer in a range.
 pub fn number(found: Option<&Value>, low: u64, high: u64) -> Option<u64>
     ensures value { result ≡ number_in low high (option_map (λ v. view v.now) found.entry) }
+    ensures least { IfSome result (λ n. low ≤ n) }
     ensures most { IfSome result (λ n. n ≤ high) }
 {
     match found {

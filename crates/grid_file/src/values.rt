@@ -1,7 +1,9 @@
 //! What may stand at each key.
-ghost use Rattle.std.specs.Prelude.{◌≡◌, ◌≤◌, ◌^◌, IfSome, Some, length, option_map, slice_index};
+ghost use Rattle.std.specs.Prelude.{◌≡◌, ◌≤◌, ◌^◌, IfSome, Some, length, option_map, slice_index, unsigned_abs};
+ghost use Rattle.peano_keys.specs.State.{count_of};
+ghost use Rattle.volume_solver.specs.Ranges.{IsWind, EdgeHas};
 ghost use Rattle.toml.specs.View.{view, items_view};
-ghost use Rattle.grid_file.specs.Values.{dim_in, solver_named, solver_in, axes_in, speed_in, third_speed, speeds_in, wind_in, corner_within, from_in, to_in, values_in, state_in, fixed_named, fixed_in, edge_in, print_every_in};
+ghost use Rattle.grid_file.specs.Values.{parts_of, dim_in, solver_named, solver_in, axes_in, speed_in, third_speed, speeds_in, wind_in, corner_within, from_in, to_in, values_in, state_in, fixed_named, fixed_in, edge_in, print_every_in};
 
 use crate::solver::SolverName;
 use crate::tree::{items, number, number_or, text};
@@ -68,7 +70,8 @@ fn axes<'a>(dim: Dim, items: &'a [Value]) -> Option<(&'a Value, &'a Value, Optio
 
 // A speed of at most a million in either direction.
 fn speed(value: &Value) -> Option<i64>
-    ensures { result ≡ speed_in (view value.now) }
+    ensures value { result ≡ speed_in (view value.now) }
+    ensures most { IfSome result (λ z. unsigned_abs z ≤ 1000000) }
 {
     let speed = value.as_integer()?;
     if speed.unsigned_abs() <= 1_000_000 {
@@ -80,7 +83,8 @@ fn speed(value: &Value) -> Option<i64>
 
 // The speed on an axis, none on an unused one.
 fn third_speed(found: Option<&Value>) -> Option<i64>
-    ensures { result ≡ third_speed (option_map (λ v. view v.now) found.entry) }
+    ensures value { result ≡ third_speed (option_map (λ v. view v.now) found.entry) }
+    ensures most { IfSome result (λ z. unsigned_abs z ≤ 1000000) }
 {
     match found {
         None => Some(0),
@@ -90,7 +94,8 @@ fn third_speed(found: Option<&Value>) -> Option<i64>
 
 // A speed on each axis.
 fn speeds(dim: Dim, items: &[Value]) -> Option<[i64; 3]>
-    ensures { result ≡ speeds_in dim (items_view items.now) }
+    ensures value { result ≡ speeds_in dim (items_view items.now) }
+    ensures ranges { IfSome result IsWind }
 {
     let (x, y, z) = axes(dim, items)?;
     Some([speed(x)?, speed(y)?, third_speed(z)?])
@@ -98,7 +103,8 @@ fn speeds(dim: Dim, items: &[Value]) -> Option<[i64; 3]>
 
 /// The wind, none on any axis where the key is absent.
 pub fn wind(dim: Dim, found: Option<&Value>) -> Option<[i64; 3]>
-    ensures { result ≡ wind_in dim (option_map (λ v. view v.now) found.entry) }
+    ensures value { result ≡ wind_in dim (option_map (λ v. view v.now) found.entry) }
+    ensures ranges { IfSome result IsWind }
 {
     if found.is_none() {
         return Some([0, 0, 0]);
@@ -158,7 +164,8 @@ pub fn to(dim: Dim, level: u32, from: [u32; 3], found: Option<&Value>) -> Option
 
 // As many integers as a state of the solver has values.
 fn values(solver: SolverName, items: &[Value]) -> Option<State>
-    ensures { result ≡ values_in solver (items_view items.now) }
+    ensures value { result ≡ values_in solver (items_view items.now) }
+    ensures parts { IfSome result (λ s. count_of s ≡ parts_of solver) }
 {
     match (solver, items) {
         (SolverName::Wave, [x, y]) => Some(State::Pair(x.as_integer()?, y.as_integer()?)),
@@ -169,7 +176,8 @@ fn values(solver: SolverName, items: &[Value]) -> Option<State>
 
 /// A state of the solver.
 pub fn state(solver: SolverName, found: Option<&Value>) -> Option<State>
-    ensures { result ≡ state_in solver (option_map (λ v. view v.now) found.entry) }
+    ensures value { result ≡ state_in solver (option_map (λ v. view v.now) found.entry) }
+    ensures parts { IfSome result (λ s. count_of s ≡ parts_of solver) }
 {
     values(solver, items(found)?)
 }
@@ -198,7 +206,8 @@ pub fn fixed(found: Option<&Value>) -> Option<bool>
 
 /// The rule at the domain's edge: a fixed one has a state, and a copy has none.
 pub fn edge(solver: SolverName, fixed: bool, found: Option<&Value>) -> Option<EdgeRule>
-    ensures { result ≡ edge_in solver fixed (option_map (λ v. view v.now) found.entry) }
+    ensures value { result ≡ edge_in solver fixed (option_map (λ v. view v.now) found.entry) }
+    ensures parts { IfSome result (EdgeHas (parts_of solver)) }
 {
     if fixed {
         Some(EdgeRule::Fixed(state(solver, found)?))
