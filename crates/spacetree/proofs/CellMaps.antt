@@ -1,9 +1,9 @@
 -- Sets of cells and maps from cells.
-use Rattle.std.proofs.Common.{◌+◌, ◌<◌, length, take, get_or, arith, ◌≡◌, ℕ, List, [], ◌∷◌, ◌++◌, Some, None, Option, Bool, true, false, ◌||◌, ◌&&◌, cond, refl, ap, sym, ◌∙◌, subst, map, T}
-use Rattle.std.specs.FinMap.{FinMap, get, insert, entries, from_entries, from_sorted, get-from_entries, get-from_sorted, get-insert, entries-from_sorted, find, is_sorted, len-entries, same_map}
+use Rattle.std.proofs.Common.{◌+◌, length, arith, ◌≡◌, ℕ, List, [], ◌∷◌, Some, Option, Bool, true, false, ◌||◌, ◌&&◌, cond, refl, ap, sym, ◌∙◌, subst, map, T}
+use Rattle.std.specs.FinMap.{get, insert, entries, from_entries, from_sorted, get-from_entries, get-from_sorted, get-insert, entries-from_sorted, find, is_sorted, same_map}
 use Rattle.std.specs.FinMap.Entries.{below_all}
 use Rattle.std.specs.FinSet as set
-use Rattle.std.specs.List.{list_any, AllByRecursion, IsDistinct}
+use Rattle.std.specs.List.{AllByRecursion, IsDistinct}
 use Rattle.std.specs.List.Sorted.{IsStrictlySortedBy}
 use Rattle.std.proofs.lemmas.Map.Keys.{IsDistinct-from_sorted}
 use Rattle.std.specs.Map.{lookup}

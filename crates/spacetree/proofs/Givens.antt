@@ -1,5 +1,5 @@
 -- Maps that give each cell of a list its state, and no other cell one.
-use Rattle.std.proofs.Common.{◌+◌, ◌<◌, length, take, get_or, arith, ◌≡◌, ℕ, List, [], ◌∷◌, ◌++◌, Some, None, Option, Bool, true, false, ◌||◌, cond, refl, ap, sym, ◌∙◌, subst, IsSome, IfSome, ◌↔◌, is_some}
+use Rattle.std.proofs.Common.{◌+◌, ◌<◌, length, take, get_or, ◌≡◌, ℕ, List, [], ◌∷◌, ◌++◌, Some, None, Option, Bool, true, false, ◌||◌, cond, refl, ap, sym, ◌∙◌, subst, IsSome, IfSome, is_some, unwrap_or}
 use Rattle.std.specs.FinMap as map
 use Rattle.std.specs.List.{list_any}
 use Rattle.std.specs.Ordering.{eq_by_cmp}
@@ -10,11 +10,11 @@ use Rattle.peano_keys.specs.declared.state.State.{State}
 use Rattle.peano_keys.specs.State.{count_of}
 use Rattle.peano_keys.specs.Cell.{key_cmp}
 use Rattle.peano_keys.specs.Grid.{Spacetree}
-use Rattle.peano_keys.specs.Field.{States}
+use Rattle.peano_keys.specs.Field.{States, state_at}
 use Rattle.solver_api.specs.Step.{IsLeafOf}
 use Rattle.spacetree.specs.Leaves.{is_among, ListsLeaves}
 use Rattle.spacetree.specs.Fields.{IsFieldOn}
-use Rattle.spacetree.proofs.CellMaps.{cells_total}
+use Rattle.spacetree.proofs.CellMaps.{cells_total, exact_cells}
 use Rattle.spacetree.proofs.CellSets.{same_key}
 
 -- the map has, at each cell of the list, what a function gives there, and nothing elsewhere
@@ -75,7 +75,7 @@ pub field_on : (parts : ℕ) (t : Spacetree) (given : CellKey → Option State) 
 field_on parts t given cells m lists gives some counts = record {
   leaves = λ q. (
     λ h. (lists.members q).0 (some_among (is_among cells q) (given q) (ap is_some (sym (gives q)) ∙ h)),
-    λ leaf. ap is_some (gives q) ∙ ap (λ b. is_some (cond b (given q) None)) ((lists.members q).1 leaf) ∙ some q leaf
+    λ leaf. ap is_some (gives q) ∙ ap (λ b. is_some (cond b (given q) None)) ((lists.members q).1 leaf) ∙ some q leaf,
   );
   counts = counts;
 }
@@ -87,3 +87,18 @@ given_at_leaf t given cells m lists gives q leaf = gives q ∙ ap (λ b. cond b 
 -- and at another cell
 pub none_elsewhere : (t : Spacetree) (given : CellKey → Option State) (cells : List CellKey) (m : States) → ListsLeaves t cells → Gives given cells m → (q : CellKey) → ¬ IsLeafOf t q → map.get m q ≡ None
 none_elsewhere t given cells m lists gives q apart = gives q ∙ ap (λ b. cond b (given q) None) (not_among (is_among cells q) (λ e. apart ((lists.members q).0 e)))
+
+there : (o : Option State) (d : State) → is_some o ≡ true → Some (unwrap_or o d) ≡ o
+there None d h = absurd (false≢true h)
+there (Some s) d h = refl
+
+away : (o : Option State) → (is_some o ≡ true → ⊥) → o ≡ None
+away None h = refl
+away (Some s) h = absurd (h refl)
+
+-- a map that gives each leaf its state in a field is that field
+pub same_field : (parts : ℕ) (t : Spacetree) (f : States) (cells : List CellKey) (m : States) → IsFieldOn parts t f → ListsLeaves t cells → Gives (λ q. Some (state_at f q)) cells m → m ≡ f
+same_field parts t f cells m field lists gives = map.same_map cells_total exact_cells m f (λ q. gives q ∙ go q (is_among cells q) refl) where
+  go : (q : CellKey) (b : Bool) → is_among cells q ≡ b → cond b (Some (state_at f q)) None ≡ map.get f q
+  go q true h = there (map.get f q) _ ((field.leaves q).1 ((lists.members q).0 h))
+  go q false h = sym (away (map.get f q) (λ e. false≢true (sym h ∙ (lists.members q).1 ((field.leaves q).0 e))))

@@ -1,9 +1,9 @@
 -- Leaves: a cell of the grid that is not refined.
-use Rattle.std.proofs.Common.{◌+◌, ◌-◌, ◌<◌, arith, ◌≡◌, ℕ, List, Bool, true, false, not, ◌&&◌, ◌||◌, ◌==◌, slice_index, length, refl, ap, sym, ◌∙◌, ◌⊎◌, eqb-true, inl, inr}
+use Rattle.std.proofs.Common.{◌+◌, ◌<◌, arith, ◌≡◌, ℕ, List, Bool, true, false, not, ◌&&◌, ◌==◌, slice_index, length, refl, ap, sym, ◌∙◌, eqb-true, inl, inr}
 use Rattle.std.proofs.lemmas.Bool.{false≢true, or_right, or_cases}
 use Rattle.peano_keys.specs.declared.cell.CellKey.{CellKey}
 use Rattle.peano_keys.specs.Cell.{IsCell, parent_of, child_of}
-use Rattle.peano_keys.specs.Grid.{Spacetree, is_leaf, is_refined, has_cell}
+use Rattle.peano_keys.specs.Grid.{Spacetree, is_refined, has_cell}
 use Rattle.solver_api.specs.Step.{IsLeafOf}
 use Rattle.spacetree.proofs.Children.{parent_of_child}
 

@@ -4,6 +4,8 @@ pub mod CellSets
 pub mod Children
 pub mod Givens
 pub mod Leaves
+pub mod Values
+pub mod Steps
 pub mod Openings
 pub mod Descents
 pub mod CellCounts

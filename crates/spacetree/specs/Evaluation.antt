@@ -17,6 +17,11 @@ abbrev pub OverflowsIn : UpdateRule → MarkRule → Spacetree → States → �
 OverflowsIn updated marked t f zero c = ⊥
 OverflowsIn updated marked t f (suc n) c = (u : Spacetree) × (g : States) × Evaluates updated marked t f n u g × Overflows updated u g c
 
+-- what a step that was refused says: its number and the leaf at which it overflows, or that memory was wanting
+abbrev pub StepFails : UpdateRule → Spacetree → States → ℕ → EvalFault → Type 0
+StepFails updated t f step (Overflow s c) = (s ≡ step) × Overflows updated t f c
+StepFails updated t f step NoMemory = Unit {0}
+
 -- what an evaluation of so many steps that ended early says: the step and the leaf in which it overflows, or that memory was wanting
 abbrev pub EndsIn : UpdateRule → MarkRule → Spacetree → States → ℕ → EvalFault → Type 0
 EndsIn updated marked t f steps (Overflow step c) = (step ≤ steps) × OverflowsIn updated marked t f step c

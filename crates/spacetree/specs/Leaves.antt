@@ -5,9 +5,14 @@ use Rattle.std.specs.List.{list_any}
 use Rattle.std.specs.List.Sorted.{IsStrictlySortedBy}
 use Rattle.std.specs.Ordering.{eq_by_cmp}
 use Rattle.peano_keys.specs.declared.cell.CellKey.{CellKey}
-use Rattle.peano_keys.specs.Cell.{key_cmp}
-use Rattle.peano_keys.specs.Grid.{Cells, Spacetree}
+use Rattle.peano_keys.specs.Cell.{IsCell, key_cmp}
+use Rattle.peano_keys.specs.Grid.{Cells, Spacetree, has_cell}
 use Rattle.solver_api.specs.Step.{IsLeafOf}
+
+-- a cell of a grid: a cell of the domain that the grid has
+pub record IsCellOf (t : Spacetree) (c : CellKey) : Type 0 where
+  pub cell : IsCell t.dim c
+  pub there : has_cell t c ≡ true
 
 -- whether a cell is one of a list
 abbrev pub is_among : List CellKey → CellKey → Bool

@@ -1,12 +1,11 @@
 -- The grid and the field that a run opens with.
-use Rattle.std.specs.Prelude.{◌≡◌, ◌↔◌, ◌⊎◌, ℕ, pos, ◌+◌, ◌*◌, ◌^◌, ◌<◌, ◌≤◌, min, max, Bool, true, false, ◌&&◌, nat_lt, List, [], ◌∷◌, filter, replicate, slice_index, length, Any, All, unwrap_or, Some, None}
+use Rattle.std.specs.Prelude.{◌≡◌, ◌↔◌, ◌⊎◌, ℕ, pos, ◌+◌, ◌*◌, ◌^◌, ◌<◌, ◌≤◌, min, max, Bool, true, ◌&&◌, nat_lt, List, [], ◌∷◌, filter, replicate, slice_index, Any, unwrap_or, Some, None}
 use Rattle.std.specs.FinMap as map
 use Rattle.peano_keys.specs.declared.dim.Dim.{Dim}
 use Rattle.peano_keys.specs.declared.dim.Dim.TheVariants.{Two, Three}
 use Rattle.peano_keys.specs.declared.cell.CellKey.{CellKey}
 use Rattle.peano_keys.specs.declared.state.State.{State}
 use Rattle.peano_keys.specs.declared.state.State.TheVariants.{Single}
-use Rattle.peano_keys.specs.Dim.{third_extent}
 use Rattle.peano_keys.specs.Cell.{IsCell, at}
 use Rattle.peano_keys.specs.State.{count_of, state_from}
 use Rattle.peano_keys.specs.Grid.{Spacetree, is_refined}

@@ -1,12 +1,12 @@
 //! Grids: sets of refined cells.
-ghost use Rattle.std.specs.Prelude.{◌≡◌, ◌<◌, ◌≤◌, true, IfOk, IfErr, OnOk};
+ghost use Rattle.std.specs.Prelude.{◌≡◌, ◌<◌, ◌≤◌, true, IfOk, IfErr, OnOk, IsTrue, ◌↔◌};
 ghost use Rattle.spacetree.specs.Digits.{HasLeavesOf, HasLeavesUnder, IsKept};
 ghost use Rattle.peano_keys.specs.Cell.{IsCell};
-ghost use Rattle.peano_keys.specs.Grid.{IsGrid, has_cell, is_refined, is_leaf};
+ghost use Rattle.peano_keys.specs.Grid.{IsGrid, has_cell, is_refined};
 ghost use Rattle.spacetree.specs.Counts.{cells_of, leaves_of};
 ghost use Rattle.std.specs.FinSet as set;
 ghost use Rattle.solver_api.specs.Step.{IsLeafOf};
-ghost use Rattle.spacetree.specs.Leaves.{ListsCells, ListsLeaves};
+ghost use Rattle.spacetree.specs.Leaves.{IsCellOf, ListsCells, ListsLeaves};
 ghost use Rattle.spacetree.specs.Build.{IsShape, BuildFails};
 ghost use Rattle.spacetree.specs.Opening.{Opens};
 
@@ -15,7 +15,7 @@ use crate::cells::CellSet;
 use crate::digits::{fan, nth_digits};
 use crate::fault::BuildFault;
 use crate::shape::Shape;
-use peano_keys::{CellKey, Dim, child, parent};
+use peano_keys::{CellKey, Dim, child, is_cell, parent};
 use std::alloc::{AllocError, Global};
 use std::marker::Model;
 
@@ -73,20 +73,26 @@ impl Grid {
         self.refined.contains(key)
     }
 
-    /// Whether a cell of the domain is one of the grid.
+    /// Whether a key is a cell of the grid.
     pub fn is_cell(&self, key: &CellKey) -> bool
+        ensures { IsTrue result ↔ IsCellOf self.now key.now }
+    {
+        is_cell(self.dim(), key) && self.has_cell(key)
+    }
+
+    /// Whether a key is a leaf of the grid.
+    pub fn is_leaf(&self, key: &CellKey) -> bool
+        ensures { IsTrue result ↔ IsLeafOf self.now key.now }
+    {
+        self.is_cell(key) && !self.is_refined(key)
+    }
+
+    // Whether a cell of the domain is one of the grid.
+    pub(crate) fn has_cell(&self, key: &CellKey) -> bool
         requires { IsCell self.now.dim key.now }
         ensures { result ≡ has_cell self.now key.now }
     {
         key.level == 0 || self.is_refined(&parent(*key))
-    }
-
-    /// Whether a cell of the domain is a leaf of the grid.
-    pub fn is_leaf(&self, key: &CellKey) -> bool
-        requires { IsCell self.now.dim key.now }
-        ensures { result ≡ is_leaf self.now key.now }
-    {
-        self.is_cell(key) && !self.is_refined(key)
     }
 
     /// How many cells there are: the root, and nine or 27 children of each refined one.

@@ -5,7 +5,9 @@ mod build;
 #[cfg(test)]
 mod build_tests;
 mod cells;
+mod diffuse;
 mod digits;
+mod evaluation;
 mod fault;
 mod field;
 mod grid;
@@ -14,7 +16,11 @@ mod opening;
 mod row;
 mod shape;
 mod side;
+#[cfg(test)]
+mod tests;
 
+pub use diffuse::evaluate_diffuse;
+pub use evaluation::evaluate;
 pub use fault::{BuildFault, EvalFault};
 pub use field::Field;
 pub use grid::Grid;

@@ -1,5 +1,5 @@
 -- Bounds on values, products and quotients.
-use Rattle.std.proofs.Common.{◌≡◌, ℕ, ◌+◌, ◌<◌, ◌≤◌, ◌^◌, arith, lit<}
+use Rattle.std.proofs.Common.{◌≡◌, ℕ, ◌<◌, ◌≤◌, ◌^◌, arith, lit<}
 use Rattle.std.specs.Prelude.{ℤ, pos, negsuc, ◌≤ℤ◌, ◌+ℤ◌}
 use Rattle.std.specs.Int.{int_div_euclid}
 use Rattle.std.specs.Int.RustNames.{unsigned_abs}
@@ -25,14 +25,6 @@ floor_bound z (negsuc b) h = absurd (omega (arith, ints))
 -- nine to the level
 pub pow9_by_12 : (l : ℕ) → l ≤ 12 → 9 ^ l ≤ 282429536481
 pow9_by_12 l h = pow-le-pow_right (lit< tt) h
-
--- three to the level
-pub pow3_by_12 : (l : ℕ) → l ≤ 12 → 3 ^ l ≤ 531441
-pow3_by_12 l h = pow-le-pow_right (lit< tt) h
-
--- a sum is no larger than its parts together
-pub unsigned_abs-add : (a b : ℤ) → unsigned_abs (a +ℤ b) ≤ unsigned_abs a + unsigned_abs b
-unsigned_abs-add a b = grind arith
 
 -- four numbers, added in pairs and in turn
 pub four_in_turn : (a b c d : ℤ) → (a +ℤ b) +ℤ (c +ℤ d) ≡ a +ℤ (b +ℤ (c +ℤ (d +ℤ pos 0)))

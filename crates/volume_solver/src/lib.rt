@@ -9,6 +9,8 @@ mod edge;
 mod exact;
 mod laplacian;
 mod marks;
+#[cfg(test)]
+mod tests;
 mod upwind;
 mod wave;
 

@@ -61,6 +61,17 @@ fn seen_across(criterion: Criterion, own: State, side: Side) -> Seen
     }
 }
 
+// What a leaf sees across the two faces of an axis.
+fn seen_on(criterion: Criterion, own: State, low: Side, high: Side) -> Seen
+    requires own { criterion.watch < count_of own }
+    requires low { SideHas (count_of own) low }
+    requires high { SideHas (count_of own) high }
+    ensures reached { result.reached ≡ (is_at_least criterion.hi (difference criterion.watch own low) || is_at_least criterion.hi (difference criterion.watch own high)) }
+    ensures calm { result.calm ≡ (is_below criterion.lo (difference criterion.watch own low) && is_below criterion.lo (difference criterion.watch own high)) }
+{
+    seen_across(criterion, own, low).with(seen_across(criterion, own, high))
+}
+
 // What a leaf sees across all its faces.
 fn seen_around(dim: Dim, criterion: Criterion, own: State, sides: &Sides) -> Seen
     requires own { criterion.watch < count_of own }
@@ -68,24 +79,12 @@ fn seen_around(dim: Dim, criterion: Criterion, own: State, sides: &Sides) -> See
     ensures reached { result.reached ≡ list_any (is_at_least criterion.hi) (differences dim criterion.watch own sides.now) }
     ensures calm { result.calm ≡ list_all (is_below criterion.lo) (differences dim criterion.watch own sides.now) }
 {
-    let first = seen_across(criterion, own, sides.low[0]).with(seen_across(
-        criterion,
-        own,
-        sides.high[0],
-    ));
-    let second = seen_across(criterion, own, sides.low[1]).with(seen_across(
-        criterion,
-        own,
-        sides.high[1],
-    ));
+    let first = seen_on(criterion, own, sides.low[0], sides.high[0]);
+    let second = seen_on(criterion, own, sides.low[1], sides.high[1]);
     match dim {
         Dim::Two => first.with(second),
         Dim::Three => {
-            let third = seen_across(criterion, own, sides.low[2]).with(seen_across(
-                criterion,
-                own,
-                sides.high[2],
-            ));
+            let third = seen_on(criterion, own, sides.low[2], sides.high[2]);
             first.with(second).with(third)
         }
     }

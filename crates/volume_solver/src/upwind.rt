@@ -35,7 +35,7 @@ fn upwind_rise(speed: i64, rule: EdgeRule, own: State, low: Side, high: Side) ->
 
 impl Upwind {
     // What the wind carries off on an axis.
-    #[tactic(auto, using(crate::proofs::Bounds::pow3_by_12))]
+    #[tactic(auto, using(peano_keys::proofs::Powers::pow3_by_12))]
     fn carried_on(&self, axis: usize, own: State, sides: &Sides, level: u32) -> i128
         requires axis { axis < 3 }
         requires speed { unsigned_abs (speed_on self.now.wind axis) ≤ 1000000 }

@@ -1,6 +1,5 @@
 use Rattle.std.proofs.Common.{ap, ◌∙◌, sym, subst, ◌≡◌, ◌+◌, [], List, get_or, take, Some, Option, refl}
 use Rattle.std.proofs.lemmas.List.{take_all}
-use Rattle.std.specs.FinMap as map
 use Rattle.peano_keys.specs.declared.cell.CellKey.{CellKey}
 use Rattle.peano_keys.specs.declared.state.State.{State}
 use Rattle.peano_keys.specs.declared.dim.Dim.{Dim}

@@ -1,6 +1,5 @@
 use Rattle.std.proofs.Common.{ap, ◌∙◌, sym, map}
 use Rattle.std.proofs.lemmas.Result.{IfOk-weaker}
-use Rattle.std.specs.FinMap as fin
 use Rattle.spacetree.specs.Fields.{row_of, rows_of}
 use Rattle.spacetree.proofs.CellMaps.{entries_in_order}
 use Rattle.spacetree.proofs.field.Field.rows.Goals as goal

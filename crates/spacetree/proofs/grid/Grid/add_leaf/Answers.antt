@@ -1,9 +1,7 @@
-use Rattle.std.proofs.Common.{◌≡◌, true, false, not, ◌&&◌, subst, sym, ap, ◌∙◌, refl, inl, inr}
+use Rattle.std.proofs.Common.{subst, sym, ap, ◌∙◌, inl, inr}
 use Rattle.std.specs.FinSet as set
 use Rattle.peano_keys.specs.declared.cell.CellKey.{CellKey}
-use Rattle.peano_keys.specs.Grid.{is_leaf, is_refined, has_cell}
 use Rattle.solver_api.specs.Step.{IsLeafOf}
-use Rattle.spacetree.specs.Digits.{HasLeavesOf}
 use Rattle.spacetree.proofs.CellSets.{kept_by_insert, has_inserted, inserted_cases}
 use Rattle.spacetree.proofs.Leaves.{leaf_from, not_leaf}
 use Rattle.spacetree.proofs.grid.Grid.add_leaf.Goals as goal

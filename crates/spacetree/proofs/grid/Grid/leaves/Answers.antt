@@ -1,12 +1,11 @@
-use Rattle.std.proofs.Common.{arith, ◌≡◌, ◌<◌, ◌≤◌, ℕ, [], List, ap, ◌∙◌, inl, inr, subst, sym, ◌⊎◌, refl, true, get_or, take, length}
+use Rattle.std.proofs.Common.{arith, ◌≡◌, ◌<◌, ◌≤◌, [], ap, ◌∙◌, inl, inr, subst, sym, true, get_or, take}
 use Rattle.std.proofs.Math.Nat.{eq-or-lt_of_le}
 use Rattle.std.proofs.lemmas.List.{take_all}
 use Rattle.std.proofs.lemmas.Bool.{false≢true}
 use Rattle.std.proofs.lemmas.Result.{IfOk-weaker}
 use Rattle.std.specs.FinSet as set
 use Rattle.peano_keys.specs.declared.cell.CellKey.{CellKey}
-use Rattle.peano_keys.specs.Cell.{IsCell, parent_of, key_cmp, root}
-use Rattle.peano_keys.specs.Grid.{is_refined}
+use Rattle.peano_keys.specs.Cell.{parent_of, key_cmp, root}
 use Rattle.solver_api.specs.Step.{IsLeafOf}
 use Rattle.spacetree.specs.Leaves.{is_among}
 use Rattle.spacetree.proofs.CellSets.{among_at, among_more}

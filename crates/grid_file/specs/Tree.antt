@@ -1,0 +1,58 @@
+-- What stands in a document: its tree, numbers in a range, corners of boxes, tables with no other keys.
+use Rattle.std.specs.Prelude.{◌≡◌, ℕ, ◌≤◌, slice_index, zero, suc, ℤ, pos, negsuc, Bool, true, false, ◌&&◌, List, [], ◌∷◌, Option, Some, None, nat_le, if◌then◌else◌, option_and_then, nat_eq}
+use Rattle.std.specs.Str.{is_utf8}
+use Rattle.std.specs.List.{list_any}
+use lib.Pointwise.{pointwise}
+use Rattle.toml.specs.Data.{Data, Items, Members, integer, string, array, table, as_integer, as_str, get_member, no_items, item, no_members, member}
+use Rattle.toml.specs.Parse.{parse_document}
+use Rattle.peano_keys.specs.Cell.{triple}
+
+-- the tree of the bytes, none where they are no text or no document
+abbrev pub tree_of : List ℕ → Option Members
+tree_of bytes = if is_utf8 bytes then parse_document bytes else None
+
+-- the number itself where it is a whole one from `low` to `high`
+abbrev pub whole_in : ℕ → ℕ → ℤ → Option ℕ
+whole_in low high (pos n) = if nat_le low n && nat_le n high then Some n else None
+whole_in low high (negsuc n) = None
+
+-- an integer from `low` to `high`
+abbrev pub number_in : ℕ → ℕ → Option Data → Option ℕ
+number_in low high None = None
+number_in low high (Some d) = option_and_then (whole_in low high) (as_integer d)
+
+-- three coordinates, the third of them unused
+abbrev pub flat : Option ℕ → Option ℕ → Option (List ℕ)
+flat (Some x) (Some y) = Some (triple x y 0)
+flat _ _ = None
+
+-- exactly two integers, each in its range
+abbrev pub corner_in : ℕ → ℕ → ℕ → ℕ → Items → Option (List ℕ)
+corner_in low low' high high' (item x (item y no_items)) = flat (number_in low high (Some x)) (number_in low' high' (Some y))
+corner_in low low' high high' _ = None
+
+-- whether two texts have the same bytes
+abbrev pub same_text : List ℕ → List ℕ → Bool
+same_text s t = pointwise nat_eq s t
+
+-- whether a text is one of these
+unfoldable pub is_one_of : List (List ℕ) → List ℕ → Bool
+is_one_of texts t = list_any (same_text t) texts
+
+-- whether each key of a table is one of these
+abbrev pub has_only : List (List ℕ) → Members → Bool
+has_only keys no_members = true
+has_only keys (member k d rest) = is_one_of keys k && has_only keys rest
+
+-- how many items a list has
+abbrev pub count_items : Items → ℕ
+count_items no_items = 0
+count_items (item d rest) = suc (count_items rest)
+
+-- a corner of the plane from `low` to `high`
+pub record IsCornerIn (low high x : List ℕ) : Type 0 where
+  pub first_low : slice_index low 0 ≤ slice_index x 0
+  pub first_high : slice_index x 0 ≤ slice_index high 0
+  pub second_low : slice_index low 1 ≤ slice_index x 1
+  pub second_high : slice_index x 1 ≤ slice_index high 1
+  pub flat : slice_index x 2 ≡ 0
