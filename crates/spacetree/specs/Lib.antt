@@ -13,5 +13,5 @@ pub mod Digits
 pub mod Fields
 pub mod Opening
 pub mod Evaluation
-pub mod Diffusion
 pub mod Build
+pub mod Diffusion

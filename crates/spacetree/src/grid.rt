@@ -1,5 +1,5 @@
 //! Grids: sets of refined cells.
-ghost use Rattle.std.specs.Prelude.{◌≡◌, ◌<◌, ◌≤◌, ◌↔◌, true, IfOk, IfErr, IsTrue, OnOk};
+ghost use Rattle.std.specs.Prelude.{◌≡◌, ◌<◌, ◌≤◌, true, IfOk, IfErr, OnOk, IsTrue, ◌↔◌};
 ghost use Rattle.spacetree.specs.Digits.{HasLeavesOf, HasLeavesUnder, IsKept};
 ghost use Rattle.peano_keys.specs.Cell.{IsCell};
 ghost use Rattle.peano_keys.specs.Grid.{IsGrid, has_cell, is_refined};
