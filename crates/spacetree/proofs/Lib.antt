@@ -8,3 +8,4 @@ pub mod Planes
 pub mod Values
 pub mod Steps
 pub mod Openings
+pub mod Unique
