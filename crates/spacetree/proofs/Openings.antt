@@ -1,30 +1,14 @@
 -- The opening grid of a shape in the plane without zones.
-use Rattle.std.proofs.Common.{◌+◌, ◌-◌, ◌*◌, ◌^◌, ◌<◌, ◌≤◌, arith, lit<, ◌≡◌, ℕ, [], refl, ap, sym, ◌∙◌, subst, inl, inr, Any}
+use Rattle.std.proofs.Common.{◌+◌, ◌*◌, ◌^◌, ◌≤◌, arith, lit<, ◌≡◌, ℕ, [], sym, subst, inl, inr, Any}
 use Rattle.std.proofs.Math.Nat.{pow-le-pow_right}
-use Rattle.std.proofs.lemmas.Nat.{pow-add}
-use Rattle.peano_keys.specs.declared.dim.Dim.{Dim}
-use Rattle.peano_keys.specs.declared.dim.Dim.TheVariants.{Two, Three}
-use Rattle.peano_keys.specs.declared.cell.CellKey.{CellKey}
-use Rattle.peano_keys.specs.Cell.{IsCell, at, parent_of}
+use Rattle.peano_keys.specs.declared.dim.Dim.TheVariants.{Two}
+use Rattle.peano_keys.specs.Cell.{IsCell, parent_of}
 use Rattle.peano_keys.specs.Grid.{Cells, Spacetree, IsGrid}
+use Rattle.spacetree.proofs.Children.{parent_cell}
 use Rattle.spacetree.specs.declared.shape.Shape.{Shape}
 use Rattle.spacetree.specs.declared.shape.Zone.{Zone}
 use Rattle.spacetree.specs.Plane.{StayBelow, HasBelow}
 use Rattle.spacetree.specs.Opening.{Opens, ZoneRefines}
-
--- a level has three times the cells of the one above on an axis
-pub extent_step : (l : ℕ) → 0 < l → 3 ^ l ≡ 3 * 3 ^ (l - 1)
-extent_step l h = let e : l ≡ l - 1 + 1 = omega arith in ap (λ n. 3 ^ n) e ∙ omega (arith, pow-add 3 (l - 1) 1)
-
--- the parent of a cell of the domain is one
-pub parent_cell : (dim : Dim) (c : CellKey) → IsCell dim c → 0 < c.level → IsCell dim (parent_of c)
-parent_cell Two c h pos =
-    let step = extent_step c.level pos in
-    let third : at c 2 < 1 = h.third in
-    record { shape = refl; level = omega (arith, h.level); first = omega (arith, h.first, step); second = omega (arith, h.second, step); third = omega arith }
-parent_cell Three c h pos =
-    let step = extent_step c.level pos in
-    record { shape = refl; level = omega (arith, h.level); first = omega (arith, h.first, step); second = omega (arith, h.second, step); third = omega (arith, h.third, step) }
 
 abbrev pub plane_grid : Cells → Spacetree
 plane_grid s = record { dim = Two; refined = s }
