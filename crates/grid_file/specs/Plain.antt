@@ -2,33 +2,47 @@
 use Rattle.std.specs.Prelude.{ℕ, ℤ, pos, Bool, true, false, List, [], ◌∷◌, Option, Some, None, codes, ◌+◌, ◌-◌, ◌^◌, ◌&&◌, nat_le, if◌then◌else◌, slice_index, is_some}
 use Rattle.toml.specs.Data.{Data, Items, Members, integer, string, array, table, as_integer, as_str, as_array, get_member, no_items, item}
 use Rattle.spacetree.specs.declared.shape.Fill.{Fill}
-use Rattle.peano_keys.specs.declared.state.State.{State}
-use Rattle.peano_keys.specs.declared.dim.Dim.TheVariants.{Two}
-use Rattle.grid_file.specs.declared.place.Part.TheVariants.{Fill as FillTable}
-use Rattle.grid_file.specs.declared.solver.SolverName.TheVariants.{Diffuse}
-use Rattle.grid_file.specs.Values.{from_in, to_in, state_in}
-use Rattle.grid_file.specs.Plan.{listed_keys}
+use Rattle.peano_keys.specs.declared.state.State.TheVariants.{Single}
 use Rattle.grid_file.specs.declared.plain.PlainPlan.{PlainPlan}
-use Rattle.grid_file.specs.Tree.{tree_of, number_in, has_only, count_items, same_text}
+use Rattle.grid_file.specs.Tree.{tree_of, number_in, corner_in, has_only, count_items, same_text}
+
+-- the keys of a fill
+unfoldable pub fill_keys : List (List ℕ)
+fill_keys = codes "level" ∷ codes "from" ∷ codes "to" ∷ codes "value" ∷ []
 
 -- the keys of the document
 unfoldable pub plain_keys : List (List ℕ)
 plain_keys = codes "dim" ∷ codes "depth" ∷ codes "base" ∷ codes "solver" ∷ codes "a" ∷ codes "b" ∷ codes "steps" ∷ codes "fill" ∷ []
 
-abbrev pub fill_with : ℕ → List ℕ → Option (List ℕ) → Option State → Option Fill
-fill_with level from (Some to) (Some v) = Some (record { level = level; from = from; to = to; value = v })
+-- `from`: two coordinates of a cell of the level
+abbrev pub from_at : ℕ → Option Data → Option (List ℕ)
+from_at level (Some (array items)) = corner_in 0 0 (3 ^ level - 1) (3 ^ level - 1) items
+from_at level _ = None
+
+-- `to`: beyond `from` on each axis, and at most the end of the level
+abbrev pub to_at : ℕ → List ℕ → Option Data → Option (List ℕ)
+to_at level from (Some (array items)) = corner_in (slice_index from 0 + 1) (slice_index from 1 + 1) (3 ^ level) (3 ^ level) items
+to_at level from _ = None
+
+-- `value`: exactly one integer
+abbrev pub value_in : Option Data → Option ℤ
+value_in (Some (array (item d no_items))) = as_integer d
+value_in _ = None
+
+abbrev pub fill_with : ℕ → List ℕ → Option (List ℕ) → Option ℤ → Option Fill
+fill_with level from (Some to) (Some v) = Some (record { level = level; from = from; to = to; value = Single v })
 fill_with level from _ _ = None
 
 abbrev pub fill_from : ℕ → Option (List ℕ) → Members → Option Fill
-fill_from level (Some from) t = fill_with level from (to_in Two level from (get_member (codes "to") t)) (state_in Diffuse (get_member (codes "value") t))
+fill_from level (Some from) t = fill_with level from (to_at level from (get_member (codes "to") t)) (value_in (get_member (codes "value") t))
 fill_from level None t = None
 
 abbrev pub fill_on : Option ℕ → Members → Option Fill
-fill_on (Some level) t = fill_from level (from_in Two level (get_member (codes "from") t)) t
+fill_on (Some level) t = fill_from level (from_at level (get_member (codes "from") t)) t
 fill_on None t = None
 
 abbrev pub fill_in : ℕ → Members → Option Fill
-fill_in depth t = if has_only (listed_keys FillTable) t then fill_on (number_in 0 depth (get_member (codes "level") t)) t else None
+fill_in depth t = if has_only fill_keys t then fill_on (number_in 0 depth (get_member (codes "level") t)) t else None
 
 -- a fill: a table of these four keys
 abbrev pub fill_of : ℕ → Data → Option Fill

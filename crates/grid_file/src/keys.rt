@@ -60,7 +60,7 @@ fn is_listed(part: Part, key: &str) -> bool
     }
 }
 
-pub fn has_only_listed(part: Part, table: &Table) -> bool
+fn has_only_listed(part: Part, table: &Table) -> bool
     ensures { result ≡ has_only (listed_keys part) (table_view table.now) }
 {
     table.keys().all(|key| is_listed(part, key.as_str()))

@@ -1,15 +1,12 @@
 //! The plain form of a file.
-ghost use Rattle.std.specs.Prelude.{◌≡◌, ◌≤◌, IfOk, Some, option_map};
+ghost use Rattle.std.specs.Prelude.{◌≡◌, ◌≤◌, ◌^◌, IfOk, IsErrOf, IfSome, None, Some, option_map, option_copied, slice_index, length};
+ghost use Rattle.toml.specs.Data.{array, get_member};
 ghost use Rattle.toml.specs.View.{view, table_view, items_view};
 ghost use Rattle.grid_file.specs.Tree.{has_only, is_one_of};
-ghost use Rattle.grid_file.specs.Plain.{plain_plan, plan_in, plan_on, plain_keys, fill_on, fill_in, fill_of, fills_of, fills_within, fills_at, is_diffuse};
+ghost use Rattle.grid_file.specs.Plain.{plain_plan, plan_in, plan_on, plain_keys, fill_keys, from_at, to_at, value_in, fill_on, fill_in, fill_of, fills_of, fills_within, fills_at, is_diffuse};
 
-use crate::keys::has_only_listed;
-use crate::place::Part;
-use crate::solver::SolverName;
-use crate::tree::{entry, number, tree};
-use crate::values::{from, state, to};
-use peano_keys::Dim;
+use crate::tree::{corner, entry, number, tree};
+use peano_keys::State;
 use spacetree::{Fill, Listed};
 use std::alloc::{AllocError, Global};
 use toml::{Table, Value};
@@ -23,6 +20,17 @@ pub struct PlainPlan {
     pub b: i64,
     pub steps: u32,
     pub fills: Listed<Fill>,
+}
+
+// How many cells a level has on an axis.
+#[tactic(auto, using(peano_keys::proofs::Powers::pow3_by_12, peano_keys::proofs::Powers::pow3_positive))]
+fn extent(level: u32) -> u32
+    requires { level ≤ 12 }
+    ensures value { result ≡ 3 ^ level }
+    ensures least { 1 ≤ result }
+    ensures most { result ≤ 531441 }
+{
+    3u32.pow(level)
 }
 
 #[tactic(auto, unfolding(crate::specs::Tree::is_one_of, crate::specs::Plain::plain_keys))]
@@ -39,10 +47,23 @@ fn is_plain_key(key: &str) -> bool
         || key == "fill"
 }
 
+#[tactic(auto, unfolding(crate::specs::Tree::is_one_of, crate::specs::Plain::fill_keys))]
+fn is_fill_key(key: &str) -> bool
+    ensures { result ≡ is_one_of fill_keys key.now }
+{
+    key == "level" || key == "from" || key == "to" || key == "value"
+}
+
 fn has_plain_keys(table: &Table) -> bool
     ensures { result ≡ has_only plain_keys (table_view table.now) }
 {
     table.keys().all(|key| is_plain_key(key.as_str()))
+}
+
+fn has_fill_keys(table: &Table) -> bool
+    ensures { result ≡ has_only fill_keys (table_view table.now) }
+{
+    table.keys().all(|key| is_fill_key(key.as_str()))
 }
 
 fn is_diffuse(found: Option<&Value>) -> bool
@@ -57,19 +78,70 @@ fn is_diffuse(found: Option<&Value>) -> bool
     }
 }
 
+fn from_corner(level: u32, found: Option<&Value>) -> Option<[u32; 3]>
+    requires { level ≤ 12 }
+    ensures { result ≡ from_at level (option_map (λ v. view v.now) found.entry) }
+{
+    let last = extent(level) - 1;
+    match found {
+        None => None,
+        Some(value) => match value.as_array() {
+            None => None,
+            Some(items) => corner(items.as_slice(), [0, 0], [last, last]),
+        },
+    }
+}
+
+fn to_corner(level: u32, from: [u32; 3], found: Option<&Value>) -> Option<[u32; 3]>
+    requires level { level ≤ 12 }
+    requires first { slice_index from 0 ≤ 3 ^ level }
+    requires second { slice_index from 1 ≤ 3 ^ level }
+    ensures { result ≡ to_at level from (option_map (λ v. view v.now) found.entry) }
+{
+    let end = extent(level);
+    match found {
+        None => None,
+        Some(value) => match value.as_array() {
+            None => None,
+            Some(items) => corner(items.as_slice(), [from[0] + 1, from[1] + 1], [end, end]),
+        },
+    }
+}
+
+fn single_item(items: &[Value]) -> Option<i64>
+    ensures { result ≡ value_in (Some (array (items_view items.now))) }
+{
+    match items {
+        [only] => only.as_integer(),
+        _ => None,
+    }
+}
+
+fn single_value(found: Option<&Value>) -> Option<i64>
+    ensures { result ≡ value_in (option_map (λ v. view v.now) found.entry) }
+{
+    match found {
+        None => None,
+        Some(value) => match value.as_array() {
+            None => None,
+            Some(items) => single_item(items.as_slice()),
+        },
+    }
+}
+
 // The fill of a level that a table says.
 fn fill_on(level: u32, table: &Table) -> Option<Fill>
     requires { level ≤ 12 }
     ensures { result ≡ fill_on (Some level) (table_view table.now) }
 {
-    let from = from(Dim::Two, level, entry(table, "from"))?;
-    let to = to(Dim::Two, level, from, entry(table, "to"))?;
-    let value = state(SolverName::Diffuse, entry(table, "value"))?;
+    let from = from_corner(level, entry(table, "from"))?;
+    let to = to_corner(level, from, entry(table, "to"))?;
+    let value = single_value(entry(table, "value"))?;
     Some(Fill {
         level,
         from,
         to,
-        value,
+        value: State::one(value),
     })
 }
 
@@ -78,7 +150,7 @@ fn fill_in(depth: u32, table: &Table) -> Option<Fill>
     requires { depth ≤ 12 }
     ensures { result ≡ fill_in depth (table_view table.now) }
 {
-    if !has_only_listed(Part::Fill, table) {
+    if !has_fill_keys(table) {
         return None;
     }
     let level = number(entry(table, "level"), 0, u64::from(depth))?;
