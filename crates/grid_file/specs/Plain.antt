@@ -1,6 +1,8 @@
 -- The plain form of a file, and the plan that it means.
-use Rattle.std.specs.Prelude.{ℕ, ℤ, pos, Bool, true, false, List, [], ◌∷◌, Option, Some, None, codes, ◌+◌, ◌-◌, ◌^◌, ◌&&◌, nat_le, if◌then◌else◌, slice_index, is_some}
+use Rattle.std.specs.Prelude.{ℕ, ℤ, pos, Bool, true, false, List, [], ◌∷◌, Option, Some, None, codes, ◌+◌, ◌-◌, ◌^◌, ◌&&◌, nat_le, if◌then◌else◌, slice_index, is_some, ◌≡◌, ◌<◌, ◌≤◌, All}
 use Rattle.toml.specs.Data.{Data, Items, Members, integer, string, array, table, as_integer, as_str, as_array, get_member, no_items, item}
+use Rattle.volume_solver.specs.Ranges.{IsFactor, IsDivisor}
+use Rattle.spacetree.specs.Opening.{IsFill}
 use Rattle.spacetree.specs.declared.shape.Fill.{Fill}
 use Rattle.peano_keys.specs.declared.state.State.TheVariants.{Single}
 use Rattle.grid_file.specs.declared.plain.PlainPlan.{PlainPlan}
@@ -23,6 +25,14 @@ from_at level _ = None
 abbrev pub to_at : ℕ → List ℕ → Option Data → Option (List ℕ)
 to_at level from (Some (array items)) = corner_in (slice_index from 0 + 1) (slice_index from 1 + 1) (3 ^ level) (3 ^ level) items
 to_at level from _ = None
+
+-- such a corner lies beyond `from` and within the level
+pub record IsUpperCorner (level : ℕ) (from x : List ℕ) : Type 0 where
+  pub first_low : slice_index from 0 < slice_index x 0
+  pub first_high : slice_index x 0 ≤ 3 ^ level
+  pub second_low : slice_index from 1 < slice_index x 1
+  pub second_high : slice_index x 1 ≤ 3 ^ level
+  pub flat : slice_index x 2 ≡ 0
 
 -- `value`: exactly one integer
 abbrev pub value_in : Option Data → Option ℤ
@@ -92,3 +102,11 @@ plan_of_tree (Some t) = plan_in t
 -- the plan of a file in the plain form, none where the bytes are of no such form
 abbrev pub plain_plan : List ℕ → Option PlainPlan
 plain_plan bytes = plan_of_tree (tree_of bytes)
+
+-- a plan of the plain form: its numbers are in their ranges, its boxes are of cells of the plane
+pub record IsPlainPlan (plan : PlainPlan) : Type 0 where
+  pub depth : plan.depth ≤ 5
+  pub factor : IsFactor plan.a
+  pub divisor : IsDivisor plan.b
+  pub steps : plan.steps ≤ 10000
+  pub fills : All (IsFill 1) plan.fills

@@ -1,5 +1,5 @@
 -- What stands in a document: its tree, numbers in a range, corners of boxes, tables with no other keys.
-use Rattle.std.specs.Prelude.{ℕ, zero, suc, ℤ, pos, negsuc, Bool, true, false, ◌&&◌, List, [], ◌∷◌, Option, Some, None, nat_le, if◌then◌else◌, option_and_then, nat_eq}
+use Rattle.std.specs.Prelude.{◌≡◌, ℕ, ◌≤◌, slice_index, zero, suc, ℤ, pos, negsuc, Bool, true, false, ◌&&◌, List, [], ◌∷◌, Option, Some, None, nat_le, if◌then◌else◌, option_and_then, nat_eq}
 use Rattle.std.specs.Str.{is_utf8}
 use Rattle.std.specs.List.{list_any}
 use lib.Pointwise.{pointwise}
@@ -48,3 +48,11 @@ has_only keys (member k d rest) = is_one_of keys k && has_only keys rest
 abbrev pub count_items : Items → ℕ
 count_items no_items = 0
 count_items (item d rest) = suc (count_items rest)
+
+-- a corner of the plane from `low` to `high`
+pub record IsCornerIn (low high x : List ℕ) : Type 0 where
+  pub first_low : slice_index low 0 ≤ slice_index x 0
+  pub first_high : slice_index x 0 ≤ slice_index high 0
+  pub second_low : slice_index low 1 ≤ slice_index x 1
+  pub second_high : slice_index x 1 ≤ slice_index high 1
+  pub flat : slice_index x 2 ≡ 0

@@ -1,9 +1,10 @@
 //! The plain form of a file.
-ghost use Rattle.std.specs.Prelude.{◌≡◌, ◌≤◌, ◌^◌, IfOk, IsErrOf, IfSome, None, Some, option_map, option_copied, slice_index, length};
+ghost use Rattle.std.specs.Prelude.{◌≡◌, ◌<◌, ◌≤◌, ◌^◌, All, IfOk, IfSome, Some, option_map, slice_index};
 ghost use Rattle.toml.specs.Data.{array, get_member};
 ghost use Rattle.toml.specs.View.{view, table_view, items_view};
+ghost use Rattle.spacetree.specs.Opening.{IsFill};
 ghost use Rattle.grid_file.specs.Tree.{has_only, is_one_of};
-ghost use Rattle.grid_file.specs.Plain.{plain_plan, plan_in, plan_on, plain_keys, fill_keys, from_at, to_at, value_in, fill_on, fill_in, fill_of, fills_of, fills_within, fills_at, is_diffuse};
+ghost use Rattle.grid_file.specs.Plain.{plain_plan, plan_in, plan_on, plain_keys, fill_keys, from_at, to_at, value_in, fill_on, fill_in, fill_of, fills_of, fills_within, fills_at, is_diffuse, IsPlainPlan, IsUpperCorner};
 
 use crate::tree::{corner, entry, number, tree};
 use peano_keys::State;
@@ -80,7 +81,10 @@ fn is_diffuse(found: Option<&Value>) -> bool
 
 fn from_corner(level: u32, found: Option<&Value>) -> Option<[u32; 3]>
     requires { level ≤ 12 }
-    ensures { result ≡ from_at level (option_map (λ v. view v.now) found.entry) }
+    ensures value { result ≡ from_at level (option_map (λ v. view v.now) found.entry) }
+    ensures first { IfSome result (λ x. slice_index x 0 < 3 ^ level) }
+    ensures second { IfSome result (λ x. slice_index x 1 < 3 ^ level) }
+    ensures flat { IfSome result (λ x. slice_index x 2 ≡ 0) }
 {
     let last = extent(level) - 1;
     match found {
@@ -96,7 +100,8 @@ fn to_corner(level: u32, from: [u32; 3], found: Option<&Value>) -> Option<[u32; 
     requires level { level ≤ 12 }
     requires first { slice_index from 0 ≤ 3 ^ level }
     requires second { slice_index from 1 ≤ 3 ^ level }
-    ensures { result ≡ to_at level from (option_map (λ v. view v.now) found.entry) }
+    ensures value { result ≡ to_at level from (option_map (λ v. view v.now) found.entry) }
+    ensures within { IfSome result (IsUpperCorner level from) }
 {
     let end = extent(level);
     match found {
@@ -132,7 +137,8 @@ fn single_value(found: Option<&Value>) -> Option<i64>
 // The fill of a level that a table says.
 fn fill_on(level: u32, table: &Table) -> Option<Fill>
     requires { level ≤ 12 }
-    ensures { result ≡ fill_on (Some level) (table_view table.now) }
+    ensures value { result ≡ fill_on (Some level) (table_view table.now) }
+    ensures fill { IfSome result (IsFill 1) }
 {
     let from = from_corner(level, entry(table, "from"))?;
     let to = to_corner(level, from, entry(table, "to"))?;
@@ -148,7 +154,8 @@ fn fill_on(level: u32, table: &Table) -> Option<Fill>
 // A fill of a level up to `depth`.
 fn fill_in(depth: u32, table: &Table) -> Option<Fill>
     requires { depth ≤ 12 }
-    ensures { result ≡ fill_in depth (table_view table.now) }
+    ensures value { result ≡ fill_in depth (table_view table.now) }
+    ensures fill { IfSome result (IsFill 1) }
 {
     if !has_fill_keys(table) {
         return None;
@@ -159,7 +166,8 @@ fn fill_in(depth: u32, table: &Table) -> Option<Fill>
 
 fn fill(depth: u32, value: &Value) -> Option<Fill>
     requires { depth ≤ 12 }
-    ensures { result ≡ fill_of depth (view value.now) }
+    ensures value { result ≡ fill_of depth (view value.now) }
+    ensures fill { IfSome result (IsFill 1) }
 {
     match value.as_table() {
         None => None,
@@ -170,7 +178,8 @@ fn fill(depth: u32, value: &Value) -> Option<Fill>
 // The fills of an array, none where an item is no fill.
 fn fills_in(alloc: Global, depth: u32, items: &[Value]) -> Result<Option<Vec<Fill>>, AllocError>
     requires { depth ≤ 12 }
-    ensures { IfOk result (λ fills. option_map (λ v. v.items) fills ≡ fills_of depth (items_view items.now)) }
+    ensures value { IfOk result (λ fills. option_map (λ v. v.items) fills ≡ fills_of depth (items_view items.now)) }
+    ensures fills { IfOk result (λ fills. IfSome fills (λ v. All (IsFill 1) v.items)) }
 {
     let mut fills = Vec::with_capacity(alloc, items.len())?;
     for item in items {
@@ -185,7 +194,8 @@ fn fills_in(alloc: Global, depth: u32, items: &[Value]) -> Result<Option<Vec<Fil
 // The fills of an array of at most a thousand.
 fn fills_within(alloc: Global, depth: u32, items: &[Value]) -> Result<Option<Vec<Fill>>, AllocError>
     requires { depth ≤ 12 }
-    ensures { IfOk result (λ fills. option_map (λ v. v.items) fills ≡ fills_within depth (items_view items.now)) }
+    ensures value { IfOk result (λ fills. option_map (λ v. v.items) fills ≡ fills_within depth (items_view items.now)) }
+    ensures fills { IfOk result (λ fills. IfSome fills (λ v. All (IsFill 1) v.items)) }
 {
     if items.len() > 1000 {
         return Ok(None);
@@ -196,7 +206,8 @@ fn fills_within(alloc: Global, depth: u32, items: &[Value]) -> Result<Option<Vec
 // The fills of a document.
 fn fills(alloc: Global, depth: u32, found: Option<&Value>) -> Result<Option<Vec<Fill>>, AllocError>
     requires { depth ≤ 12 }
-    ensures { IfOk result (λ fills. option_map (λ v. v.items) fills ≡ fills_at depth (option_map (λ v. view v.now) found.entry)) }
+    ensures value { IfOk result (λ fills. option_map (λ v. v.items) fills ≡ fills_at depth (option_map (λ v. view v.now) found.entry)) }
+    ensures fills { IfOk result (λ fills. IfSome fills (λ v. All (IsFill 1) v.items)) }
 {
     let Some(value) = found else {
         return Ok(Some(Vec::new(alloc)));
@@ -210,7 +221,8 @@ fn fills(alloc: Global, depth: u32, found: Option<&Value>) -> Result<Option<Vec<
 // The plan of a document whose grid has a depth.
 fn plan_on(alloc: Global, depth: u32, table: &Table) -> Result<Option<PlainPlan>, AllocError>
     requires { depth ≤ 5 }
-    ensures { IfOk result (λ plan. plan ≡ plan_on (table_view table.now) (Some depth)) }
+    ensures value { IfOk result (λ plan. plan ≡ plan_on (table_view table.now) (Some depth)) }
+    ensures plan { IfOk result (λ plan. IfSome plan IsPlainPlan) }
 {
     let base = number(entry(table, "base"), u64::from(depth), u64::from(depth));
     let a = number(entry(table, "a"), 0, 1_000_000);
@@ -233,7 +245,8 @@ fn plan_on(alloc: Global, depth: u32, table: &Table) -> Result<Option<PlainPlan>
 
 // The plan of a document.
 fn plan_in(alloc: Global, table: &Table) -> Result<Option<PlainPlan>, AllocError>
-    ensures { IfOk result (λ plan. plan ≡ plan_in (table_view table.now)) }
+    ensures value { IfOk result (λ plan. plan ≡ plan_in (table_view table.now)) }
+    ensures plan { IfOk result (λ plan. IfSome plan IsPlainPlan) }
 {
     if !has_plain_keys(table) || !is_diffuse(entry(table, "solver")) {
         return Ok(None);
@@ -248,7 +261,8 @@ fn plan_in(alloc: Global, table: &Table) -> Result<Option<PlainPlan>, AllocError
 
 /// The plan of a file in the plain form, none where the bytes are not of that form.
 pub fn read_plain(alloc: Global, text: &[u8]) -> Result<Option<PlainPlan>, AllocError>
-    ensures { IfOk result (λ plan. plan ≡ plain_plan text.now) }
+    ensures value { IfOk result (λ plan. plan ≡ plain_plan text.now) }
+    ensures plan { IfOk result (λ plan. IfSome plan IsPlainPlan) }
 {
     match tree(alloc, text)? {
         None => Ok(None),

@@ -2,7 +2,7 @@
 ghost use Rattle.std.specs.Prelude.{◌≡◌, ◌≤◌, IfOk, IfSome, length, option_map, option_copied, slice_index};
 ghost use Rattle.toml.specs.Data.{get_member};
 ghost use Rattle.toml.specs.View.{view, table_view, items_view};
-ghost use Rattle.grid_file.specs.Tree.{tree_of, whole_in, number_in, corner_in};
+ghost use Rattle.grid_file.specs.Tree.{tree_of, whole_in, number_in, corner_in, IsCornerIn};
 ghost use Rattle.grid_file.specs.Values.{number_or, items_at, text_at, table_at, are_tables, tables_within, list_in};
 
 use std::alloc::{AllocError, Global};
@@ -58,7 +58,8 @@ pub fn number(found: Option<&Value>, low: u64, high: u64) -> Option<u64>
 
 // Exactly two integers, each in its range.
 pub fn corner(items: &[Value], low: [u32; 2], high: [u32; 2]) -> Option<[u32; 3]>
-    ensures { result ≡ corner_in (slice_index low 0) (slice_index low 1) (slice_index high 0) (slice_index high 1) (items_view items.now) }
+    ensures value { result ≡ corner_in (slice_index low 0) (slice_index low 1) (slice_index high 0) (slice_index high 1) (items_view items.now) }
+    ensures within { IfSome result (IsCornerIn low high) }
 {
     match items {
         [x, y] => {

@@ -5,3 +5,4 @@ pub mod State
 pub mod Grid
 pub mod Field
 pub mod Next
+pub mod Laws

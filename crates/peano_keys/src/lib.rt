@@ -4,6 +4,7 @@
 
 mod cell;
 mod dim;
+pub mod laws;
 mod power;
 mod side;
 mod state;

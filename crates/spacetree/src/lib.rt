@@ -1,8 +1,30 @@
 //! Grids as sets of refined cells, fields as maps from leaves to states, and the plain evaluator.
 #![tactic(auto)]
 
+mod build;
+#[cfg(test)]
+mod build_tests;
+mod cells;
+mod diffuse;
+mod digits;
+mod evaluation;
+mod fault;
+mod field;
+mod grid;
 mod listed;
+mod opening;
+mod row;
 mod shape;
+mod side;
+#[cfg(test)]
+mod tests;
 
+pub use diffuse::evaluate_diffuse;
+pub use evaluation::evaluate;
+pub use fault::{BuildFault, EvalFault};
+pub use field::Field;
+pub use grid::Grid;
 pub use listed::Listed;
+pub use row::Row;
 pub use shape::{Fill, Shape, Zone};
+pub use side::sides;

@@ -3,6 +3,7 @@ use crate::listed::Listed;
 use peano_keys::{Dim, State};
 
 /// A box of cells of one level, `from` below `to` on each axis, whose cells are refined down to level `until`.
+/// In two dimensions the coordinates on axis 2 say nothing.
 #[derive(Clone, Copy, Debug, PartialEq, Eq)]
 pub struct Zone {
     pub level: u32,
@@ -12,6 +13,7 @@ pub struct Zone {
 }
 
 /// A box of cells of one level, `from` below `to` on each axis, and the state that the leaves in it open with.
+/// In two dimensions the coordinates on axis 2 say nothing.
 #[derive(Clone, Copy, Debug, PartialEq, Eq)]
 pub struct Fill {
     pub level: u32,

@@ -1,0 +1,15 @@
+-- So far exactly the first `written` bytes were taken, and nothing failed.
+use Rattle.std.proofs.Common.{length, ◌-◌, take, ◌≡◌, ◌≤◌}
+use Rattle.std.specs.Io.KnownBytes.{Appends}
+use Rattle.peano_io.proofs.writing.write_whole.Given as goal
+
+abbrev pub invariant-loop-written : goal.invariant-loop-written
+invariant-loop-written g l = record {
+  within : l.written ≤ length l.bytes;
+  part : Appends (g.K.Sink.taken l.fn.sink) (g.K.Sink.taken l.sink) (take l.written l.bytes);
+  untouched : l.written ≡ 0 → l.sink ≡ l.fn.sink;
+  kept : g.K.Sink.faults l.sink ≡ g.K.Sink.faults l.fn.sink;
+}
+
+abbrev pub decreases-loop-written : goal.decreases-loop-written
+decreases-loop-written g l = length l.bytes - l.written

@@ -1,0 +1,6 @@
+-- What the contracts of this crate cite.
+pub mod Causes
+pub mod Reading
+pub mod Writing
+pub mod Memory
+pub mod Standard

@@ -1,0 +1,11 @@
+//! The top call: reads a file, takes its steps and writes the report.
+#![tactic(auto)]
+
+mod answer;
+mod report;
+mod text;
+mod top;
+
+pub use answer::{Answer, Outcome};
+pub use text::{FixedText, refusal_text};
+pub use top::run;

@@ -1,0 +1,11 @@
+pub mod Boxes
+pub mod CellMaps
+pub mod CellSets
+pub mod Children
+pub mod Givens
+pub mod Leaves
+pub mod Values
+pub mod Steps
+pub mod Openings
+pub mod Descents
+pub mod CellCounts

@@ -1,0 +1,64 @@
+use Rattle.std.proofs.Common.{arith, ◌≡◌, ◌<◌, ◌≤◌, [], ap, ◌∙◌, inl, inr, subst, sym, true, get_or, take}
+use Rattle.std.proofs.Math.Nat.{eq-or-lt_of_le}
+use Rattle.std.proofs.lemmas.List.{take_all}
+use Rattle.std.proofs.lemmas.Bool.{false≢true}
+use Rattle.std.proofs.lemmas.Result.{IfOk-weaker}
+use Rattle.std.specs.FinSet as set
+use Rattle.peano_keys.specs.declared.cell.CellKey.{CellKey}
+use Rattle.peano_keys.specs.Cell.{parent_of, key_cmp, root}
+use Rattle.solver_api.specs.Step.{IsLeafOf}
+use Rattle.spacetree.specs.Leaves.{is_among}
+use Rattle.spacetree.proofs.CellSets.{among_at, among_more}
+use Rattle.spacetree.proofs.Children.{root_is}
+use Rattle.spacetree.proofs.Leaves.{leaf_there, parent_refined}
+use Rattle.spacetree.proofs.grid.Grid.leaves.Goals as goal
+
+abbrev none : CellKey
+none = record { level = 0; x = [] }
+
+pub add_leaf-requires-clause-within : goal.add_leaf-requires-clause-within
+add_leaf-requires-clause-within c q h = absurd (false≢true (sym (set.contains-empty key_cmp q) ∙ ap (λ s. set.contains s q) (sym c.new-found.ensures) ∙ h))
+
+pub add_leaves-requires-clause-refined : goal.add_leaves-requires-clause-refined
+add_leaves-requires-clause-refined c =
+    let cells = c.as_slice-parent-items.result.now in
+    let p : CellKey = get_or cells c.loop-parent.parent-index none in
+    sym (c.in_ok-parents.ensures.members p) ∙ ap (λ l. is_among l p) (sym c.as_slice-parent-items.ensures.value) ∙ among_at cells c.loop-parent.parent-index none c.loop-parent-test.true
+
+pub add_leaves-requires-clause-cell : goal.add_leaves-requires-clause-cell
+add_leaves-requires-clause-cell c =
+    let cells = c.as_slice-parent-items.result.now in
+    let p : CellKey = get_or cells c.loop-parent.parent-index none in
+    c.requires.cells p (sym (c.in_ok-parents.ensures.members p) ∙ ap (λ l. is_among l p) (sym c.as_slice-parent-items.ensures.value) ∙ among_at cells c.loop-parent.parent-index none c.loop-parent-test.true)
+
+pub add_leaves-requires-clause-level : goal.add_leaves-requires-clause-level
+add_leaves-requires-clause-level c =
+    let cells = c.as_slice-parent-items.result.now in
+    let p : CellKey = get_or cells c.loop-parent.parent-index none in
+    c.requires.levels p (sym (c.in_ok-parents.ensures.members p) ∙ ap (λ l. is_among l p) (sym c.as_slice-parent-items.ensures.value) ∙ among_at cells c.loop-parent.parent-index none c.loop-parent-test.true)
+
+pub loop-parent-preserved : goal.loop-parent-preserved
+loop-parent-preserved c =
+    let after = c.in_ok-add_leaves.ensures in
+    record {
+      within = after.within;
+      root = λ h. after.kept root (c.loop-parent.invariant.root h);
+      below = λ q leaf pos h. elim (among_more c.as_slice-parent-items.result.now c.loop-parent.parent-index none (parent_of q) c.loop-parent-test.true h) [
+        | inl e ↦ after.kept q (c.loop-parent.invariant.below q leaf pos e)
+        | inr e ↦ after.children q leaf pos e
+      ];
+    }
+
+pub returns : goal.returns
+returns c =
+    let t = c.args.self.now in
+    let found = c.loop-parent.found in
+    let at_root : (q : CellKey) → IsLeafOf t q → 0 ≡ q.level → set.contains found q ≡ true =
+    λ q leaf e. let same = root_is t.dim q leaf.cell (sym e) in subst (λ (k : CellKey). set.contains found k ≡ true) (sym same) (c.loop-parent.invariant.root (subst (IsLeafOf t) same leaf)) in
+    let all : take c.loop-parent.parent-index c.as_slice-parent-items.result.now ≡ c.in_ok-parents.parents.items = take_all c.loop-parent.parent-index c.as_slice-parent-items.result.now c.loop-parent-test.false ∙ c.as_slice-parent-items.ensures.value in
+    let below : (q : CellKey) → IsLeafOf t q → 0 < q.level → set.contains found q ≡ true =
+    λ q leaf pos. c.loop-parent.invariant.below q leaf pos (ap (λ l. is_among l (parent_of q)) all ∙ c.in_ok-parents.ensures.members (parent_of q) ∙ parent_refined t q pos (leaf_there t q leaf)) in
+    IfOk-weaker c.cells.result _ _ (λ cells lists. record {
+      members = λ q. (λ h. c.loop-parent.invariant.within q (sym (lists.members q) ∙ h), λ leaf. lists.members q ∙ (let least : 0 ≤ q.level = omega arith in elim (eq-or-lt_of_le least) [ inl e ↦ at_root q leaf e | inr pos ↦ below q leaf pos ]));
+      order = lists.order;
+    }) c.cells.ensures

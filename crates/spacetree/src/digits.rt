@@ -1,0 +1,29 @@
+//! The children of a cell by number.
+ghost use Rattle.std.specs.Prelude.{◌≡◌, ◌<◌, ◌≤◌, ◌^◌};
+ghost use Rattle.peano_keys.specs.Dim.{axes};
+ghost use Rattle.peano_keys.specs.Cell.{IsDigits};
+ghost use Rattle.spacetree.specs.Digits.{digits_at};
+
+use peano_keys::Dim;
+
+// How many children a cell has.
+pub(crate) fn fan(dim: Dim) -> u32
+    ensures { result ≡ 3 ^ axes dim }
+{
+    match dim {
+        Dim::Two => 9,
+        Dim::Three => 27,
+    }
+}
+
+// The digits of child number `n`, axis 0 slowest.
+pub(crate) fn nth_digits(dim: Dim, n: u32) -> [u32; 3]
+    requires { n < 3 ^ axes dim }
+    ensures value { result ≡ digits_at dim n }
+    ensures digits { IsDigits dim result }
+{
+    match dim {
+        Dim::Two => [n / 3, n % 3, 0],
+        Dim::Three => [n / 9, n / 3 % 3, n % 3],
+    }
+}

@@ -1,0 +1,48 @@
+//! Why a grid was not built, and why an evaluation ended early.
+use peano_keys::CellKey;
+use std::alloc::AllocError;
+use thiserror::Error;
+
+/// Why a grid was not built.
+#[derive(Clone, Copy, Debug, PartialEq, Eq, Error)]
+pub enum BuildFault {
+    /// The grid would have more than 200,000 cells.
+    #[error("more than 200000 cells")]
+    TooMany,
+    #[error("out of memory")]
+    NoMemory,
+}
+
+impl From<AllocError> for BuildFault {
+    ghost use Rattle.std.specs.Prelude.{◌≡◌};
+    ghost use Rattle.spacetree.specs.declared.fault.BuildFault.{BuildFault};
+    ghost use Rattle.spacetree.specs.declared.fault.BuildFault.TheVariants.{NoMemory};
+
+    ghost from_gives = { λ _ e. e ≡ NoMemory };
+
+    fn from(_e: AllocError) -> BuildFault {
+        BuildFault::NoMemory
+    }
+}
+
+/// Why an evaluation ended early.
+#[derive(Clone, Copy, Debug, PartialEq, Eq, Error)]
+pub enum EvalFault {
+    /// In this step, counted from 1, this leaf's new state left the range of `i64`: the least such leaf in key order.
+    #[error("overflow in step {step}")]
+    Overflow { step: u32, key: CellKey },
+    #[error("out of memory")]
+    NoMemory,
+}
+
+impl From<AllocError> for EvalFault {
+    ghost use Rattle.std.specs.Prelude.{◌≡◌};
+    ghost use Rattle.spacetree.specs.declared.fault.EvalFault.{EvalFault};
+    ghost use Rattle.spacetree.specs.declared.fault.EvalFault.TheVariants.{NoMemory};
+
+    ghost from_gives = { λ _ e. e ≡ NoMemory };
+
+    fn from(_e: AllocError) -> EvalFault {
+        EvalFault::NoMemory
+    }
+}
