@@ -9,6 +9,8 @@ mod plain;
 mod plan;
 mod reading;
 mod solver;
+#[cfg(test)]
+mod tests;
 mod text;
 mod tree;
 mod values;
