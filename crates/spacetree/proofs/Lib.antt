@@ -8,3 +8,5 @@ pub mod Planes
 pub mod Values
 pub mod Steps
 pub mod Openings
+pub mod Sifts
+pub mod NextGrids

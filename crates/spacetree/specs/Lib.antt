@@ -13,5 +13,6 @@ pub mod Digits
 pub mod Fields
 pub mod Opening
 pub mod Evaluation
+pub mod Marked
 pub mod Diffusion
 pub mod Plane

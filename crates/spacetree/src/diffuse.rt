@@ -32,5 +32,6 @@ pub fn evaluate_diffuse(
     ensures err { IfErr result (λ fault. EndsIn (diffusion grid.now.dim a b) (unmarked grid.now.dim) grid.now field.now steps fault) }
 {
     let solver = Diffuse::new(grid.dim(), a, b, EdgeRule::Copy, None);
-    evaluate(alloc, grid, field, &solver, steps)
+    let (_grid, after) = evaluate(alloc, grid, field, &solver, steps)?;
+    Ok(after)
 }

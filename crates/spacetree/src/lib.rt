@@ -10,12 +10,15 @@ mod fault;
 mod field;
 mod grid;
 mod listed;
+mod next_field;
+mod next_grid;
 mod opening;
 mod row;
 mod shape;
 mod side;
 #[cfg(test)]
 mod tests;
+mod update;
 
 pub use diffuse::evaluate_diffuse;
 pub use evaluation::evaluate;
