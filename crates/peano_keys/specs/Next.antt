@@ -3,11 +3,12 @@ use Rattle.std.specs.Prelude.{◌≡◌, ◌⊎◌, ◌↔◌, ℕ, true, List}
 use Rattle.peano_keys.specs.declared.cell.CellKey.{CellKey}
 use Rattle.peano_keys.specs.declared.side.Mark.{Mark}
 use Rattle.peano_keys.specs.declared.side.Mark.TheVariants.{Refine, Coarsen}
-use Rattle.peano_keys.specs.Cell.{IsDigits, child_of}
+use Rattle.peano_keys.specs.Cell.{IsCell, IsDigits, child_of}
 use Rattle.peano_keys.specs.Grid.{Spacetree, is_refined, is_leaf}
 
--- a leaf that is marked to be refined splits
+-- a leaf that is marked to be refined splits: a cell of the domain, as every leaf is
 pub record Splits (t : Spacetree) (marks : CellKey → Mark) (c : CellKey) : Type 0 where
+  pub cell : IsCell t.dim c
   pub leaf : is_leaf t c ≡ true
   pub marked : marks c ≡ Refine
 

@@ -12,6 +12,7 @@ use Rattle.peano_keys.specs.Field.{States, state_at}
 use Rattle.solver_api.specs.Step.{IsLeafOf}
 use Rattle.spacetree.specs.Leaves.{is_among, ListsLeaves}
 use Rattle.spacetree.specs.Fields.{IsFieldOn}
+use Rattle.spacetree.specs.Marked.{HasLeaves}
 use Rattle.spacetree.proofs.CellMaps.{cells_total, exact_cells}
 use Rattle.spacetree.proofs.CellSets.{same_key, among_next}
 
@@ -57,15 +58,16 @@ not_among : (b : Bool) → (b ≡ true → ⊥) → b ≡ false
 not_among true h = absurd (h refl)
 not_among false h = refl
 
+-- such a map of the leaves of a grid has them as its keys
+pub keys_given : (t : Spacetree) (given : CellKey → Option State) (cells : List CellKey) (m : States) → ListsLeaves t cells → Gives given cells m → ((q : CellKey) → IsLeafOf t q → IsSome (given q)) → HasLeaves t m
+keys_given t given cells m lists gives some q = (
+  λ h. (lists.members q).0 (some_among (is_among cells q) (given q) (ap is_some (sym (gives q)) ∙ h)),
+  λ leaf. ap is_some (gives q) ∙ ap (λ b. is_some (cond b (given q) None)) ((lists.members q).1 leaf) ∙ some q leaf,
+)
+
 -- the leaves of a grid and their states make a field on it
 pub field_on : (parts : ℕ) (t : Spacetree) (given : CellKey → Option State) (cells : List CellKey) (m : States) → ListsLeaves t cells → Gives given cells m → ((q : CellKey) → IsLeafOf t q → IsSome (given q)) → Counts parts m → IsFieldOn parts t m
-field_on parts t given cells m lists gives some counts = record {
-  leaves = λ q. (
-    λ h. (lists.members q).0 (some_among (is_among cells q) (given q) (ap is_some (sym (gives q)) ∙ h)),
-    λ leaf. ap is_some (gives q) ∙ ap (λ b. is_some (cond b (given q) None)) ((lists.members q).1 leaf) ∙ some q leaf,
-  );
-  counts = counts;
-}
+field_on parts t given cells m lists gives some counts = record { leaves = keys_given t given cells m lists gives some; counts = counts }
 
 -- what such a map has at a leaf
 pub given_at_leaf : (t : Spacetree) (given : CellKey → Option State) (cells : List CellKey) (m : States) → ListsLeaves t cells → Gives given cells m → (q : CellKey) → IsLeafOf t q → map.get m q ≡ given q
@@ -75,11 +77,13 @@ given_at_leaf t given cells m lists gives q leaf = gives q ∙ ap (λ b. cond b 
 pub none_elsewhere : (t : Spacetree) (given : CellKey → Option State) (cells : List CellKey) (m : States) → ListsLeaves t cells → Gives given cells m → (q : CellKey) → ¬ IsLeafOf t q → map.get m q ≡ None
 none_elsewhere t given cells m lists gives q apart = gives q ∙ ap (λ b. cond b (given q) None) (not_among (is_among cells q) (λ e. apart ((lists.members q).0 e)))
 
-there : (o : Option State) (d : State) → is_some o ≡ true → Some (unwrap_or o d) ≡ o
+-- what a map has at a leaf of its own
+pub there : (o : Option State) (d : State) → is_some o ≡ true → Some (unwrap_or o d) ≡ o
 there None d h = absurd (false≢true h)
 there (Some s) d h = refl
 
-away : (o : Option State) → (is_some o ≡ true → ⊥) → o ≡ None
+-- and at another cell
+pub away : (o : Option State) → (is_some o ≡ true → ⊥) → o ≡ None
 away None h = refl
 away (Some s) h = absurd (h refl)
 

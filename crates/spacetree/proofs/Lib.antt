@@ -10,3 +10,5 @@ pub mod Openings
 pub mod Descents
 pub mod CellCounts
 pub mod Unique
+pub mod Sifts
+pub mod NextGrids

@@ -1,5 +1,6 @@
 -- A step on a grid that stays, the first leaf that fails, and steps after one another.
 use Rattle.std.proofs.Common.{zero, suc, ◌+◌, ◌<◌, length, take, get_or, arith, add-one, ◌≡◌, ℕ, List, [], ◌∷◌, true, cond, refl, ap, sym, ◌∙◌, subst, inl, inr, Option, None, IsSome, IsNone, Result, Ok, Err, IsErrAnd, IfErr}
+use Rattle.std.specs.FinMap as map
 use Rattle.std.specs.List.{AllByRecursion}
 use Rattle.std.specs.List.Sorted.{IsStrictlySortedBy}
 use Rattle.std.specs.Cmp.{tied_itself}
@@ -19,12 +20,14 @@ use Rattle.peano_keys.specs.Field.{States}
 use Rattle.peano_keys.specs.Next.{IsNextGrid, Merges}
 use Rattle.solver_api.specs.Step.{UpdateRule, MarkRule, IsLeafOf, IsStep, Overflows, marks_of, new_state, source_of}
 use Rattle.spacetree.specs.declared.fault.EvalFault.{EvalFault}
-use Rattle.spacetree.specs.declared.fault.EvalFault.TheVariants.{Overflow, NoMemory}
+use Rattle.spacetree.specs.declared.fault.EvalFault.TheVariants.{Overflow, Crowded, NoMemory}
 use Rattle.spacetree.specs.Leaves.{is_among, ListsLeaves}
-use Rattle.spacetree.specs.Evaluation.{Evaluates, OverflowsIn, EndsIn, StepFails}
+use Rattle.spacetree.specs.Fields.{IsFieldOn}
+use Rattle.spacetree.specs.Evaluation.{Evaluates, FailsIn, EndsIn, IsServedStep, StepFails}
+use Rattle.spacetree.specs.Marked.{HasNewStates, NextFails}
 use Rattle.spacetree.proofs.CellMaps.{cells_total}
 use Rattle.spacetree.proofs.CellSets.{same_key, among_at}
-use Rattle.spacetree.proofs.Givens.{Gives, given_at_leaf, none_elsewhere}
+use Rattle.spacetree.proofs.Givens.{away}
 
 low_digits : (dim : Dim) → IsDigits dim (triple 0 0 0)
 low_digits Two = record { shape = refl; first = omega arith; second = omega arith; third = omega arith }
@@ -49,13 +52,17 @@ same_grid t marks keep = record {
 own_source : (t : Spacetree) (c : CellKey) → IsLeafOf t c → source_of t c ≡ c
 own_source t c leaf = ap (λ b. cond b c (cond (is_refined t c) (centre_child t.dim c) (parent_of c))) leaf.leaf
 
--- a field that has the new state of each leaf comes next
-pub step_on_same_grid : (updated : UpdateRule) (marked : MarkRule) (t : Spacetree) (f : States) (cells : List CellKey) (next : States) → ListsLeaves t cells → Gives (new_state updated t f) cells next → ((q : CellKey) → is_among cells q ≡ true → IsSome (new_state updated t f q)) → ((c : CellKey) → marks_of marked t f c ≡ Keep) → IsStep updated marked t f t next
-step_on_same_grid updated marked t f cells next lists gives made keep = record {
-  updates = λ c leaf. made c ((lists.members c).1 leaf);
+-- the leaves whose new states are a field have each one
+pub updates_made : (updated : UpdateRule) (parts : ℕ) (t : Spacetree) (f states : States) → IsFieldOn parts t states → HasNewStates updated t f states → (c : CellKey) → IsLeafOf t c → IsSome (new_state updated t f c)
+updates_made updated parts t f states field new c leaf = subst (λ (o : Option State). IsSome o) (new c leaf) ((field.leaves c).1 leaf)
+
+-- where all leaves are kept their new states are the next field
+pub step_on_same_grid : (updated : UpdateRule) (marked : MarkRule) (parts : ℕ) (t : Spacetree) (f next : States) → IsFieldOn parts t next → HasNewStates updated t f next → ((c : CellKey) → marks_of marked t f c ≡ Keep) → IsStep updated marked t f t next
+step_on_same_grid updated marked parts t f next field new keep = record {
+  updates = updates_made updated parts t f next field new;
   grid = same_grid t (marks_of marked t f) keep;
-  leaves = λ c leaf. given_at_leaf t (new_state updated t f) cells next lists gives c leaf ∙ ap (new_state updated t f) (sym (own_source t c leaf));
-  others = none_elsewhere t (new_state updated t f) cells next lists gives;
+  leaves = λ c leaf. new c leaf ∙ ap (new_state updated t f) (sym (own_source t c leaf));
+  others = λ c apart. away (map.get next c) (λ e. apart ((field.leaves c).0 e));
 }
 
 not_before_itself : (c : CellKey) → key_cmp c c ≡ Less → ⊥
@@ -95,16 +102,25 @@ fails_at updated t f cells i d lists h made none = record {
 }
 
 -- one more step
-pub evaluates_more : (updated : UpdateRule) (marked : MarkRule) (t : Spacetree) (f : States) (n : ℕ) (u : Spacetree) (g : States) (t' : Spacetree) (f' : States) → Evaluates updated marked t f n u g → IsStep updated marked u g t' f' → Evaluates updated marked t f (n + 1) t' f'
+pub evaluates_more : (updated : UpdateRule) (marked : MarkRule) (t : Spacetree) (f : States) (n : ℕ) (u : Spacetree) (g : States) (t' : Spacetree) (f' : States) → Evaluates updated marked t f n u g → IsServedStep updated marked u g t' f' → Evaluates updated marked t f (n + 1) t' f'
 evaluates_more updated marked t f n u g t' f' told step = subst (λ k. Evaluates updated marked t f k t' f') (sym (add-one n)) (u, g, told, step)
 
-overflows_next : (updated : UpdateRule) (marked : MarkRule) (t : Spacetree) (f : States) (n : ℕ) (u : Spacetree) (g : States) (c : CellKey) → Evaluates updated marked t f n u g → Overflows updated u g c → OverflowsIn updated marked t f (n + 1) c
-overflows_next updated marked t f n u g c told fails = subst (λ k. OverflowsIn updated marked t f k c) (sym (add-one n)) (u, g, told, fails)
+fails_next : (updated : UpdateRule) (marked : MarkRule) (t : Spacetree) (f : States) (n : ℕ) (u : Spacetree) (g : States) (fault : EvalFault) → Evaluates updated marked t f n u g → StepFails updated marked u g (n + 1) fault → FailsIn updated marked t f (n + 1) fault
+fails_next updated marked t f n u g fault told fails =
+    subst (λ k. FailsIn updated marked t f k fault) (sym (add-one n)) (u, g, told, subst (λ k. StepFails updated marked u g k fault) (add-one n) fails)
+
+-- a next grid that is refused refuses the step
+pub next_fails : (updated : UpdateRule) (marked : MarkRule) (t : Spacetree) (f : States) (step : ℕ) (fault : EvalFault) → ((c : CellKey) → IsLeafOf t c → IsSome (new_state updated t f c)) → NextFails t (marks_of marked t f) step fault → StepFails updated marked t f step fault
+next_fails updated marked t f step (Overflow s c) made fails = absurd fails
+next_fails updated marked t f step (Crowded s cells) made fails = (fails.0, record { updates = made; grid = fails.1 })
+next_fails updated marked t f step NoMemory made fails = tt
 
 -- a step that is refused ends the evaluation
-pub ends_in : (updated : UpdateRule) (marked : MarkRule) (t : Spacetree) (f : States) (n steps : ℕ) (u : Spacetree) (g : States) (fault : EvalFault) → n < steps → Evaluates updated marked t f n u g → StepFails updated u g (n + 1) fault → EndsIn updated marked t f steps fault
+pub ends_in : (updated : UpdateRule) (marked : MarkRule) (t : Spacetree) (f : States) (n steps : ℕ) (u : Spacetree) (g : States) (fault : EvalFault) → n < steps → Evaluates updated marked t f n u g → StepFails updated marked u g (n + 1) fault → EndsIn updated marked t f steps fault
 ends_in updated marked t f n steps u g (Overflow s c) h told fails =
-    (omega (arith, fails.0), subst (λ k. OverflowsIn updated marked t f k c) (sym fails.0) (overflows_next updated marked t f n u g c told fails.1))
+    (omega (arith, fails.0), subst (λ k. FailsIn updated marked t f k (Overflow s c)) (sym fails.0) (fails_next updated marked t f n u g (Overflow s c) told fails))
+ends_in updated marked t f n steps u g (Crowded s cells) h told fails =
+    (omega (arith, fails.0), subst (λ k. FailsIn updated marked t f k (Crowded s cells)) (sym fails.0) (fails_next updated marked t f n u g (Crowded s cells) told fails))
 ends_in updated marked t f n steps u g NoMemory h told fails = tt
 
 -- what an error is known to be says what it has to be

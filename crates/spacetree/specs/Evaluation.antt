@@ -1,32 +1,53 @@
 -- The evaluation: step after step, to the end or to the first refusal.
-use Rattle.std.specs.Prelude.{◌≡◌, ◌≤◌, ℕ, zero, suc}
+use Rattle.std.specs.Prelude.{◌≡◌, ℕ, zero, suc, ◌<◌, ◌≤◌, IsSome}
 use Rattle.peano_keys.specs.declared.cell.CellKey.{CellKey}
 use Rattle.peano_keys.specs.Grid.{Spacetree}
 use Rattle.peano_keys.specs.Field.{States}
-use Rattle.solver_api.specs.Step.{UpdateRule, MarkRule, IsStep, Overflows}
+use Rattle.peano_keys.specs.declared.side.Mark.{Mark}
+use Rattle.peano_keys.specs.Next.{IsNextGrid}
+use Rattle.solver_api.specs.Step.{UpdateRule, MarkRule, IsLeafOf, IsStep, Overflows, marks_of, new_state}
 use Rattle.spacetree.specs.declared.fault.EvalFault.{EvalFault}
-use Rattle.spacetree.specs.declared.fault.EvalFault.TheVariants.{Overflow, NoMemory}
+use Rattle.spacetree.specs.declared.fault.EvalFault.TheVariants.{Overflow, Crowded, NoMemory}
+use Rattle.spacetree.specs.Counts.{cells_of}
 
--- so many steps lead from a grid and its field to others
+-- a step that is not refused: the grid that it leads to has at most 200,000 cells
+pub record IsServedStep (updated : UpdateRule) (marked : MarkRule) (old : Spacetree) (before : States) (new : Spacetree) (after : States) : Type 0 where
+  pub step : IsStep updated marked old before new after
+  pub room : cells_of new ≤ 200000
+
+-- the next grid by some marks has so many cells, which are more than 200,000
+pub record IsCrowded (old : Spacetree) (marks : CellKey → Mark) (cells : ℕ) : Type 0 where
+  pub next : (new : Spacetree) × IsNextGrid old marks new × (cells_of new ≡ cells)
+  pub crowded : 200000 < cells
+
+-- a step is refused because the next grid has so many cells: no leaf of the old one overflows
+pub record Crowds (updated : UpdateRule) (marked : MarkRule) (t : Spacetree) (f : States) (cells : ℕ) : Type 0 where
+  pub updates : (c : CellKey) → IsLeafOf t c → IsSome (new_state updated t f c)
+  pub grid : IsCrowded t (marks_of marked t f) cells
+
+-- so many steps, none of them refused, lead from a grid and its field to others
 abbrev pub Evaluates : UpdateRule → MarkRule → Spacetree → States → ℕ → Spacetree → States → Type 0
 Evaluates updated marked t f zero t' f' = (t' ≡ t) × (f' ≡ f)
-Evaluates updated marked t f (suc n) t' f' = (u : Spacetree) × (g : States) × Evaluates updated marked t f n u g × IsStep updated marked u g t' f'
+Evaluates updated marked t f (suc n) t' f' = (u : Spacetree) × (g : States) × Evaluates updated marked t f n u g × IsServedStep updated marked u g t' f'
 
--- the evaluation overflows in a step, at a leaf: the steps before it lead to a grid and a field whose least failing leaf that is
-abbrev pub OverflowsIn : UpdateRule → MarkRule → Spacetree → States → ℕ → CellKey → Type 0
-OverflowsIn updated marked t f zero c = ⊥
-OverflowsIn updated marked t f (suc n) c = (u : Spacetree) × (g : States) × Evaluates updated marked t f n u g × Overflows updated u g c
+-- what is refused in one step, by its cause: the step's number and its least leaf that overflows, or, where none does, its number and how many cells its next grid has; or that memory was wanting
+abbrev pub StepFails : UpdateRule → MarkRule → Spacetree → States → ℕ → EvalFault → Type 0
+StepFails updated marked t f step (Overflow s c) = (s ≡ step) × Overflows updated t f c
+StepFails updated marked t f step (Crowded s cells) = (s ≡ step) × Crowds updated marked t f cells
+StepFails updated marked t f step NoMemory = Unit {0}
 
--- none of so many steps overflows
-abbrev pub NeverOverflows : UpdateRule → MarkRule → Spacetree → States → ℕ → Type 0
-NeverOverflows updated marked t f steps = (s : ℕ) (c : CellKey) → s ≤ steps → ¬ OverflowsIn updated marked t f s c
+-- the steps before step `step` lead to a grid and a field from which that step is refused
+abbrev pub FailsIn : UpdateRule → MarkRule → Spacetree → States → ℕ → EvalFault → Type 0
+FailsIn updated marked t f zero fault = ⊥
+FailsIn updated marked t f (suc n) fault = (u : Spacetree) × (g : States) × Evaluates updated marked t f n u g × StepFails updated marked u g (suc n) fault
 
--- what a step that was refused says: its number and the leaf at which it overflows, or that memory was wanting
-abbrev pub StepFails : UpdateRule → Spacetree → States → ℕ → EvalFault → Type 0
-StepFails updated t f step (Overflow s c) = (s ≡ step) × Overflows updated t f c
-StepFails updated t f step NoMemory = Unit {0}
-
--- what an evaluation of so many steps that ended early says: the step and the leaf in which it overflows, or that memory was wanting
+-- how an evaluation of so many steps ends early: in the step that is named, or for want of memory
 abbrev pub EndsIn : UpdateRule → MarkRule → Spacetree → States → ℕ → EvalFault → Type 0
-EndsIn updated marked t f steps (Overflow step c) = (step ≤ steps) × OverflowsIn updated marked t f step c
+EndsIn updated marked t f steps (Overflow step c) = (step ≤ steps) × FailsIn updated marked t f step (Overflow step c)
+EndsIn updated marked t f steps (Crowded step cells) = (step ≤ steps) × FailsIn updated marked t f step (Crowded step cells)
 EndsIn updated marked t f steps NoMemory = Unit {0}
+
+-- none of so many steps is refused: none overflows at any leaf, and none is crowded
+pub record NeverRefused (updated : UpdateRule) (marked : MarkRule) (t : Spacetree) (f : States) (steps : ℕ) : Type 0 where
+  pub overflow : (s : ℕ) (c : CellKey) → s ≤ steps → ¬ FailsIn updated marked t f s (Overflow s c)
+  pub crowded : (s cells : ℕ) → s ≤ steps → ¬ FailsIn updated marked t f s (Crowded s cells)

@@ -14,4 +14,4 @@ pub mod Fields
 pub mod Opening
 pub mod Evaluation
 pub mod Build
-pub mod Diffusion
+pub mod Marked

@@ -71,4 +71,12 @@ impl CellSet {
     {
         in_order(alloc, &self.keys)
     }
+
+    // The set again.
+    pub(crate) fn copied(&self) -> Result<CellSet, AllocError>
+        ensures { IfOk result (λ copy. copy ≡ self.now) }
+    {
+        let keys = self.keys.clone()?;
+        Ok(CellSet { keys })
+    }
 }

@@ -1,56 +1,48 @@
-//! The plain evaluator: steps by coordinates over the sorted map.
-ghost use Rattle.std.specs.Prelude.{◌≡◌, ◌+◌, ◌<◌, ◌≤◌, ◌^◌, false, IfOk, IfErr, IfSome, OnOk};
-ghost use Rattle.peano_keys.specs.State.{count_of};
+//! The plain evaluator: steps by coordinates over sorted sets and maps.
+ghost use Rattle.std.specs.Prelude.{◌≡◌, ◌≤◌, ◌^◌, ℕ, false, IfOk, IfErr, OnOk};
 ghost use Rattle.peano_keys.specs.Grid.{IsGrid};
-ghost use Rattle.solver_api.specs.Step.{IsLeafOf, IsStep, new_state};
+ghost use Rattle.spacetree.specs.Counts.{cells_of};
 ghost use Rattle.spacetree.specs.Leaves.{ListsLeaves};
 ghost use Rattle.spacetree.specs.Fields.{IsFieldOn};
-ghost use Rattle.spacetree.specs.Evaluation.{Evaluates, EndsIn, NeverOverflows, StepFails};
+ghost use Rattle.spacetree.specs.Evaluation.{Evaluates, EndsIn, IsServedStep, NeverRefused, StepFails};
 
 use crate::fault::EvalFault;
 use crate::field::Field;
 use crate::grid::Grid;
-use crate::side::{sides, state};
-use peano_keys::{CellKey, State};
+use crate::next_field::next_field;
+use crate::next_grid::next_grid;
+use crate::side::state;
+use crate::update::update_leaves;
+use peano_keys::CellKey;
 use solver_api::Solver;
 use std::alloc::{AllocError, Global};
 
-// The new state of a leaf.
-fn new_state<S: Solver>(grid: &Grid, field: &Field, solver: &S, leaf: CellKey) -> Option<State>
-    requires grid { IsGrid 12 grid.now }
-    requires field { IsFieldOn (S.parts_of solver.now) grid.now field.now }
-    requires leaf { IsLeafOf grid.now leaf }
-    ensures value { result ≡ new_state (S.updated solver.now) grid.now field.now leaf }
-    ensures count { IfSome result (λ s. count_of s ≡ S.parts_of solver.now) }
-{
-    solver.update(&state(field, &leaf), &sides(grid, field, leaf), leaf.level)
-}
-
-// The field after one step, on the same grid.
+// The grid and the field after one step.
 fn advance<S: Solver>(
     alloc: Global,
-    grid: &Grid,
+    grid: Grid,
     field: &Field,
     solver: &S,
-    leaves: &[CellKey],
     step: u32,
-) -> Result<Field, EvalFault>
-    requires fixed { S.adapting solver.now ≡ false }
-    requires grid { IsGrid 12 grid.now }
-    requires field { IsFieldOn (S.parts_of solver.now) grid.now field.now }
-    requires leaves { ListsLeaves grid.now leaves.now }
-    ensures ok { IfOk result (λ after. IsStep (S.updated solver.now) (S.marked solver.now) grid.now field.now grid.now after) }
-    ensures field { IfOk result (λ after. IsFieldOn (S.parts_of solver.now) grid.now after) }
-    ensures err { IfErr result (λ fault. StepFails (S.updated solver.now) grid.now field.now step fault) }
+) -> Result<(Grid, Field), EvalFault>
+    requires deepest { S.deepest_of solver.now ≤ 12 }
+    requires grid { IsGrid 12 grid }
+    requires room { cells_of grid ≤ 200000 }
+    requires field { IsFieldOn (S.parts_of solver.now) grid field.now }
+    ensures ok { IfOk result (λ after. IsServedStep (S.updated solver.now) (S.marked solver.now) grid field.now after.0 after.1) }
+    ensures field { IfOk result (λ after. IsFieldOn (S.parts_of solver.now) after.0 after.1) }
+    ensures grid { IfOk result (λ after. (depth : ℕ) → S.deepest_of solver.now ≤ depth → IsGrid depth grid → IsGrid depth after.0) }
+    ensures stays { S.adapting solver.now ≡ false → IfOk result (λ after. after.0 ≡ grid) }
+    ensures err { IfErr result (StepFails (S.updated solver.now) (S.marked solver.now) grid field.now step) }
 {
-    let mut next = Field::empty(alloc);
-    for leaf in leaves {
-        match new_state(grid, field, solver, *leaf) {
-            None => return Err(EvalFault::Overflow { step, key: *leaf }),
-            Some(state) => next.set(*leaf, state)?,
-        }
+    let leaves = grid.leaves(alloc)?;
+    let update = update_leaves(alloc, &grid, field, solver, leaves.as_slice(), step)?;
+    if !solver.adapts() {
+        return Ok((grid, update.states));
     }
-    Ok(next)
+    let next = next_grid(alloc, &grid, &update, step)?;
+    let after = next_field(alloc, &grid, &next, &update.states)?;
+    Ok((next, after))
 }
 
 // A field again.
@@ -72,28 +64,41 @@ fn copied(
     Ok(copy)
 }
 
-/// The field after so many steps of a solver that does not adapt: the grid stays as it is.
+/// The grid and the field after so many steps of a solver. In each step the marks and the new states come from the field
+/// before it: leaves that are marked to be refined split, and a refined cell whose children are all leaves that are marked
+/// to be coarsened merges. It ends at the first step that is refused: at the least leaf that overflows, or, where none does,
+/// because the next grid would have more than 200,000 cells. The solver's deepest level is at most 12.
 pub fn evaluate<S: Solver>(
     alloc: Global,
     grid: &Grid,
     field: &Field,
     solver: &S,
     steps: u32,
-) -> Result<Field, EvalFault>
-    requires fixed { S.adapting solver.now ≡ false }
+) -> Result<(Grid, Field), EvalFault>
+    requires deepest { S.deepest_of solver.now ≤ 12 }
     requires grid { IsGrid 12 grid.now }
     requires field { IsFieldOn (S.parts_of solver.now) grid.now field.now }
-    ensures ok { IfOk result (λ after. Evaluates (S.updated solver.now) (S.marked solver.now) grid.now field.now steps grid.now after) }
-    ensures field { IfOk result (λ after. IsFieldOn (S.parts_of solver.now) grid.now after) }
-    ensures err { IfErr result (λ fault. EndsIn (S.updated solver.now) (S.marked solver.now) grid.now field.now steps fault) }
+    ensures ok { IfOk result (λ after. Evaluates (S.updated solver.now) (S.marked solver.now) grid.now field.now steps after.0 after.1) }
+    ensures field { IfOk result (λ after. IsFieldOn (S.parts_of solver.now) after.0 after.1) }
+    ensures served { IfOk result (λ after. IsGrid 12 after.0) }
 
-    // Where it goes through, no step overflows at any leaf.
-    ensures through { OnOk result (NeverOverflows (S.updated solver.now) (S.marked solver.now) grid.now field.now steps) }
+    // The grid never goes deeper than it was and the solver refines.
+    ensures grid { IfOk result (λ after. (depth : ℕ) → S.deepest_of solver.now ≤ depth → IsGrid depth grid.now → IsGrid depth after.0) }
+
+    // Without a criterion it stays.
+    ensures stays { S.adapting solver.now ≡ false → IfOk result (λ after. after.0 ≡ grid.now) }
+    ensures err { IfErr result (EndsIn (S.updated solver.now) (S.marked solver.now) grid.now field.now steps) }
+
+    // Where it goes through, no step is refused for any cause.
+    ensures through { OnOk result (NeverRefused (S.updated solver.now) (S.marked solver.now) grid.now field.now steps) }
 {
     let leaves = grid.leaves(alloc)?;
-    let mut current = copied(alloc, grid, field, leaves.as_slice(), solver.parts())?;
+    let mut states = copied(alloc, grid, field, leaves.as_slice(), solver.parts())?;
+    let mut tree = grid.copied()?;
     for step in 0..steps {
-        current = advance(alloc, grid, &current, solver, leaves.as_slice(), step + 1)?;
+        let (next, after) = advance(alloc, tree, &states, solver, step + 1)?;
+        tree = next;
+        states = after;
     }
-    Ok(current)
+    Ok((tree, states))
 }

@@ -31,6 +31,9 @@ pub enum EvalFault {
     /// In this step, counted from 1, this leaf's new state left the range of `i64`: the least such leaf in key order.
     #[error("overflow in step {step}")]
     Overflow { step: u32, key: CellKey },
+    /// In this step, counted from 1, no leaf's new state left its range, and the next grid would have so many cells, more than 200,000.
+    #[error("{cells} cells in step {step}")]
+    Crowded { step: u32, cells: u64 },
     #[error("out of memory")]
     NoMemory,
 }

@@ -3,7 +3,7 @@ ghost use Rattle.std.specs.Prelude.{◌≡◌, ◌<◌, ◌≤◌, true, IfOk, I
 ghost use Rattle.spacetree.specs.Digits.{HasLeavesOf, HasLeavesUnder, IsKept};
 ghost use Rattle.peano_keys.specs.Cell.{IsCell};
 ghost use Rattle.peano_keys.specs.Grid.{IsGrid, has_cell, is_refined};
-ghost use Rattle.spacetree.specs.Counts.{cells_of, leaves_of};
+ghost use Rattle.spacetree.specs.Counts.{cells_for, cells_of, leaves_of};
 ghost use Rattle.std.specs.FinSet as set;
 ghost use Rattle.solver_api.specs.Step.{IsLeafOf};
 ghost use Rattle.spacetree.specs.Leaves.{IsCellOf, ListsCells, ListsLeaves};
@@ -133,7 +133,7 @@ impl Grid {
     }
 
     // The refined cells, in key order.
-    fn refined_cells(&self, alloc: Global) -> Result<Vec<CellKey>, AllocError>
+    pub(crate) fn refined_cells(&self, alloc: Global) -> Result<Vec<CellKey>, AllocError>
         ensures { IfOk result (λ cells. ListsCells self.now.refined cells.items) }
     {
         self.refined.cells(alloc)
@@ -170,5 +170,24 @@ impl Grid {
         }
         found.insert(key)?;
         Ok(())
+    }
+
+    // The grid of some refined cells.
+    pub(crate) fn of(dim: Dim, refined: CellSet) -> Grid
+        requires { cells_for dim (set.len refined) ≤ 200000 }
+        ensures { result ≡ record { dim = dim; refined = refined } }
+    {
+        Grid { dim, refined }
+    }
+
+    // The grid again.
+    pub(crate) fn copied(&self) -> Result<Grid, AllocError>
+        ensures grid { IfOk result (λ grid. grid ≡ self.now) }
+        ensures room { IfOk result (λ grid. cells_of grid ≤ 200000) }
+    {
+        Ok(Grid {
+            dim: self.dim,
+            refined: self.refined.copied()?,
+        })
     }
 }

@@ -5,21 +5,22 @@ mod build;
 #[cfg(test)]
 mod build_tests;
 mod cells;
-mod diffuse;
 mod digits;
 mod evaluation;
 mod fault;
 mod field;
 mod grid;
 mod listed;
+mod next_field;
+mod next_grid;
 mod opening;
 mod row;
 mod shape;
 mod side;
 #[cfg(test)]
 mod tests;
+mod update;
 
-pub use diffuse::evaluate_diffuse;
 pub use evaluation::evaluate;
 pub use fault::{BuildFault, EvalFault};
 pub use field::Field;

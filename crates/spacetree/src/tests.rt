@@ -8,6 +8,7 @@ ghost use Rattle.volume_solver.specs.Ranges.{IsDivisor};
 use super::*;
 use peano_keys::{CellKey, Dim, State, pow3};
 use std::alloc::Global;
+use volume_solver::{Diffuse, EdgeRule};
 
 // The uniform grid of a level in the plane.
 fn uniform(alloc: Global, level: u32) -> Result<Grid, BuildFault>
@@ -116,7 +117,8 @@ fn nine_rows(alloc: Global, squares: [Square; 2], b: i64, steps: u32) -> Result<
         return Err(EvalFault::NoMemory);
     };
     let field = Field::opening(alloc, &grid, &[first, second], 1)?;
-    let after = evaluate_diffuse(alloc, &grid, &field, 1, b, steps)?;
+    let solver = Diffuse::new(Dim::Two, 1, b, EdgeRule::Copy, None);
+    let (_, after) = evaluate(alloc, &grid, &field, &solver, steps)?;
     Ok(after.rows(alloc)?)
 }
 
