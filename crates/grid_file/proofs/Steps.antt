@@ -1,5 +1,5 @@
 -- One item of a list of tables: what it adds to the checks, and to the list that is read.
-use Rattle.std.proofs.Common.{◌≡◌, ℕ, ◌+◌, ◌<◌, suc, List, [], ◌∷◌, ◌++◌, length, get_or, drop, Option, Some, None, refl, ap, sym, ◌∙◌, add-one, append_assoc}
+use Rattle.std.proofs.Common.{◌≡◌, ℕ, ◌+◌, ◌<◌, suc, List, [], ◌∷◌, ◌++◌, length, get_or, drop, Option, Some, None, ap, sym, ◌∙◌, add-one, append_assoc}
 use Rattle.std.proofs.Math.Seq.{drop-cons}
 use Rattle.std.specs.Option.{option_or}
 use Rattle.toml.specs.Data.{Members, as_table}
@@ -7,7 +7,6 @@ use Rattle.toml.specs.View.{view, items_view}
 use Rattle.toml.specs.declared.value.Value.{Value}
 use Rattle.grid_file.specs.declared.fault.Malformed.{Malformed}
 use Rattle.grid_file.specs.declared.fault.PlanFault.{PlanFault}
-use Rattle.grid_file.specs.declared.fault.PlanFault.TheVariants.{Malformed as Refused}
 use Rattle.grid_file.specs.Faults.{Check, first, IsFault}
 use Rattle.grid_file.specs.Plan.{in_table, in_each, put_before, read_each}
 use Rattle.grid_file.proofs.Searches.{first_append}

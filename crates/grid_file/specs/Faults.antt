@@ -1,5 +1,5 @@
 -- Which refusal a file gets: the least code that applies, and in that code the first place.
-use Rattle.std.specs.Prelude.{ℕ, Bool, true, false, List, [], ◌∷◌, ◌++◌, Option, Some, None, if◌then◌else◌, nat_le, Result, Ok, Err, ◌≡◌}
+use Rattle.std.specs.Prelude.{ℕ, Bool, List, [], ◌∷◌, ◌++◌, Option, Some, None, if◌then◌else◌, nat_le, Result, Ok, Err, ◌≡◌}
 use Rattle.std.specs.Option.{option_or}
 use Rattle.grid_file.specs.declared.place.Place.{Place}
 use Rattle.grid_file.specs.declared.fault.Malformed.{Malformed}

@@ -5,3 +5,4 @@ pub mod Faults
 pub mod Values
 pub mod Plan
 pub mod Stages
+pub mod Valid

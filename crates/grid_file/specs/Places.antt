@@ -1,5 +1,5 @@
 -- Keys as they are spelled, and the texts of places.
-use Rattle.std.specs.Prelude.{ℕ, List, [], ◌∷◌, ◌++◌, codes}
+use Rattle.std.specs.Prelude.{ℕ, List, [], ◌++◌, codes}
 use Rattle.std.specs.Fmt.{decimal}
 use Rattle.grid_file.specs.declared.place.Part.{Part}
 use Rattle.grid_file.specs.declared.place.Part.TheVariants.{Document, Criterion, FillList, Fill, RefineList, Refine}

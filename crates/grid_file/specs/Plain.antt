@@ -1,6 +1,6 @@
 -- The plain form of a file, and the plan that it means.
-use Rattle.std.specs.Prelude.{ℕ, ℤ, pos, Bool, true, false, List, [], ◌∷◌, Option, Some, None, codes, ◌+◌, ◌-◌, ◌^◌, ◌&&◌, nat_le, if◌then◌else◌, slice_index, is_some, ◌≡◌, ◌<◌, ◌≤◌, All}
-use Rattle.toml.specs.Data.{Data, Items, Members, integer, string, array, table, as_integer, as_str, as_array, get_member, no_items, item}
+use Rattle.std.specs.Prelude.{ℕ, ℤ, pos, Bool, false, List, [], ◌∷◌, Option, Some, None, codes, ◌+◌, ◌-◌, ◌^◌, ◌&&◌, nat_le, if◌then◌else◌, slice_index, is_some, ◌≡◌, ◌<◌, ◌≤◌, All}
+use Rattle.toml.specs.Data.{Data, Items, Members, string, array, table, as_integer, get_member, no_items, item}
 use Rattle.volume_solver.specs.Ranges.{IsFactor, IsDivisor}
 use Rattle.spacetree.specs.Opening.{IsFill}
 use Rattle.spacetree.specs.declared.shape.Fill.{Fill}

@@ -1,9 +1,8 @@
 -- The plan that a file means, and every refusal: for each key what may stand there, in the order of the codes.
-use Rattle.std.specs.Prelude.{ℕ, zero, suc, ℤ, pos, Bool, true, false, not, List, [], ◌∷◌, ◌++◌, map, Option, Some, None, Result, Ok, Err, codes, ◌+◌, ◌-◌, ◌^◌, ◌%◌, ◌==◌, ◌&&◌, ◌||◌, nat_le, unwrap_or, is_some, is_none}
+use Rattle.std.specs.Prelude.{ℕ, ℤ, pos, Bool, true, false, not, List, [], ◌∷◌, ◌++◌, Option, Some, None, Result, Err, codes, ◌+◌, ◌-◌, ◌%◌, ◌==◌, ◌&&◌, ◌||◌, nat_le, unwrap_or, is_some, is_none}
 use Rattle.toml.specs.Data.{Data, Items, Members, as_table, get_member, no_items, item}
 use Rattle.peano_keys.specs.declared.dim.Dim as dims
 use Rattle.peano_keys.specs.declared.dim.Dim.TheVariants.{Two}
-use Rattle.peano_keys.specs.declared.state.State.{State}
 use Rattle.peano_keys.specs.declared.state.State.TheVariants.{Single}
 use Rattle.peano_keys.specs.Cell.{triple}
 use Rattle.solver_api.specs.declared.criterion.Criterion as criteria

@@ -1,7 +1,7 @@
 -- The faults of a document in the order in which they are looked for, and the parts of a plan that are read meanwhile.
 use Rattle.std.specs.Option.{option_or}
-use Rattle.std.specs.Prelude.{ℕ, ℤ, pos, List, [], ◌∷◌, Option, Some, None, unwrap_or}
-use Rattle.toml.specs.Data.{Data, Members}
+use Rattle.std.specs.Prelude.{ℕ, pos, List, [], ◌∷◌, Option}
+use Rattle.toml.specs.Data.{Members}
 use Rattle.peano_keys.specs.declared.dim.Dim as dims
 use Rattle.grid_file.specs.declared.place.Part.{Part}
 use Rattle.grid_file.specs.declared.place.Part.TheVariants.{Document, FillList, RefineList}

@@ -1,9 +1,9 @@
 -- What stands in a document: its tree, numbers in a range, corners of boxes, tables with no other keys.
-use Rattle.std.specs.Prelude.{◌≡◌, ℕ, ◌≤◌, slice_index, zero, suc, ℤ, pos, negsuc, Bool, true, false, ◌&&◌, List, [], ◌∷◌, Option, Some, None, nat_le, if◌then◌else◌, option_and_then, nat_eq}
+use Rattle.std.specs.Prelude.{◌≡◌, ℕ, ◌≤◌, slice_index, suc, ℤ, pos, negsuc, Bool, true, ◌&&◌, List, Option, Some, None, nat_le, if◌then◌else◌, option_and_then, nat_eq}
 use Rattle.std.specs.Str.{is_utf8}
 use Rattle.std.specs.List.{list_any}
 use lib.Pointwise.{pointwise}
-use Rattle.toml.specs.Data.{Data, Items, Members, integer, string, array, table, as_integer, as_str, get_member, no_items, item, no_members, member}
+use Rattle.toml.specs.Data.{Data, Items, Members, as_integer, no_items, item, no_members, member}
 use Rattle.toml.specs.Parse.{parse_document}
 use Rattle.peano_keys.specs.Cell.{triple}
 

@@ -1,6 +1,6 @@
 -- What may stand at each key, none where it may not.
 use Rattle.std.specs.Prelude.{ℕ, ℤ, pos, Bool, true, false, List, [], ◌∷◌, Option, Some, None, codes, ◌+◌, ◌-◌, ◌^◌, ◌&&◌, nat_eq, nat_le, unsigned_abs, if◌then◌else◌, slice_index, option_map, option_and_then}
-use Rattle.toml.specs.Data.{Data, Items, Members, integer, as_integer, as_str, as_array, as_table, no_items, item}
+use Rattle.toml.specs.Data.{Data, Items, Members, as_integer, as_str, as_array, as_table, no_items, item}
 use Rattle.peano_keys.specs.declared.dim.Dim.{Dim}
 use Rattle.peano_keys.specs.declared.dim.Dim.TheVariants.{Two, Three}
 use Rattle.peano_keys.specs.declared.state.State.{State}
@@ -10,7 +10,7 @@ use Rattle.volume_solver.specs.declared.edge.EdgeRule.{EdgeRule}
 use Rattle.volume_solver.specs.declared.edge.EdgeRule.TheVariants.{Copy, Fixed}
 use Rattle.grid_file.specs.declared.solver.SolverName.{SolverName}
 use Rattle.grid_file.specs.declared.solver.SolverName.TheVariants.{Diffuse, Advect, Wave}
-use Rattle.grid_file.specs.Tree.{whole_in, number_in, same_text, count_items}
+use Rattle.grid_file.specs.Tree.{number_in, same_text, count_items}
 
 -- an integer from `low` to `high`, or another number where the key is absent
 abbrev pub number_or : ℕ → ℕ → ℕ → Option Data → Option ℕ

@@ -19,5 +19,4 @@ pub use fault::{Malformed, PlanFault};
 pub use place::{KeyName, Part, Place};
 pub use plain::{PlainPlan, read_plain};
 pub use plan::{Plan, is_printed, read_plan};
-
 pub use text::{PlaceText, place_text};

@@ -1,9 +1,10 @@
 //! The plan that a file means.
-ghost use Rattle.std.specs.Prelude.{◌≡◌};
+ghost use Rattle.std.specs.Prelude.{◌≡◌, IfOk};
 ghost use Rattle.toml.specs.View.{table_view};
 ghost use Rattle.grid_file.specs.Faults.{Reads, Gives};
 ghost use Rattle.grid_file.specs.Plan.{plan_of, plan_in, printed};
 ghost use Rattle.grid_file.specs.Stages.{first_fault};
+ghost use Rattle.grid_file.specs.Valid.{IsPlan};
 
 use crate::fault::{PlanFault, refused};
 use crate::keys::{Pass, found_in_tables};
@@ -40,10 +41,11 @@ fn plan_in(alloc: Global, document: &Table) -> Result<Plan, PlanFault>
     read_body(alloc, head, document)
 }
 
-/// The plan of a file, or the least code that applies to its bytes and in it the first place.
+/// The plan of a file, within its ranges, or the least code that applies to its bytes and in it the first place.
 /// Nothing but want of memory stands beside these.
 pub fn read_plan(alloc: Global, text: &[u8]) -> Result<Plan, PlanFault>
-    ensures { Reads result (plan_of text.now) }
+    ensures value { Reads result (plan_of text.now) }
+    ensures valid { IfOk result IsPlan }
 {
     match tree(alloc, text)? {
         None => Err(refused(1, document_key(KeyName::Whole))),

@@ -1,3 +1,3 @@
 pub mod Texts
 pub mod Report
-pub mod Run
+pub mod Course

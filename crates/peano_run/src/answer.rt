@@ -2,6 +2,16 @@
 ghost use Rattle.std.specs.Prelude.{◌≡◌};
 ghost use Rattle.peano_run.specs.Texts.{status_of};
 
+use grid_file::Place;
+use peano_keys::CellKey;
+
+/// What a limit counts: the cells of the opening grid, or the leaf lines of the report.
+#[derive(Clone, Copy, Debug, PartialEq, Eq)]
+pub enum LimitKind {
+    Cells,
+    Lines,
+}
+
 /// How a run ended.
 #[derive(Clone, Copy, Debug, PartialEq, Eq)]
 pub enum Answer {
@@ -11,8 +21,16 @@ pub enum Answer {
     Usage,
     /// A read failed.
     ReadFault,
-    /// The input is not of the form that is built so far, or a value left its range.
-    NotBuilt,
+    /// More than 1,048,576 bytes stand before the end of the input.
+    TooLong,
+    /// The file is refused, with a code at a place.
+    Malformed { code: u8, place: Place },
+    /// The opening grid has more than 200,000 cells, or the report would have more than 500,000 leaf lines.
+    Limit { which: LimitKind, number: u64 },
+    /// In this step no leaf failed, and the next grid would have so many cells, more than 200,000.
+    Crowded { step: u32, cells: u64 },
+    /// In this step a value of this leaf left the range of `i64`; it is the least such leaf in key order.
+    Overflow { step: u32, key: CellKey },
     /// A write failed after so many bytes of the report.
     WriteFault { written: u64 },
     /// Memory ran out.
@@ -34,8 +52,10 @@ impl Answer {
         match self {
             Answer::Done => 0,
             Answer::Usage => 2,
-            Answer::ReadFault => 3,
-            Answer::NotBuilt => 10,
+            Answer::ReadFault | Answer::TooLong => 3,
+            Answer::Malformed { .. } => 4,
+            Answer::Limit { .. } | Answer::Crowded { .. } => 5,
+            Answer::Overflow { .. } => 6,
             Answer::WriteFault { .. } => 7,
             Answer::NoMemory => 8,
         }

@@ -2,10 +2,11 @@
 #![tactic(auto)]
 
 mod answer;
-mod report;
-mod text;
-mod top;
+mod course;
 
-pub use answer::{Answer, Outcome};
+mod text;
+
+
+pub use answer::{Answer, LimitKind, Outcome};
 pub use text::{FixedText, refusal_text};
-pub use top::run;
+

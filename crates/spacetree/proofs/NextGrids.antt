@@ -19,12 +19,12 @@ use Rattle.spacetree.specs.Digits.{number_in}
 use Rattle.spacetree.specs.Leaves.{ListsCells}
 use Rattle.spacetree.specs.Fields.{IsFieldOn}
 use Rattle.spacetree.specs.Marked.{AreMarked, HasChildren, HasNewStates, Inherits}
-use Rattle.spacetree.proofs.Children.{key_from_parts}
+use Rattle.spacetree.proofs.Children.{key_from_parts, child_cell}
 use Rattle.spacetree.proofs.Givens.{there, away}
 use Rattle.spacetree.proofs.Leaves.{unrefined, leaf_there, parent_refined}
 use Rattle.spacetree.proofs.Sifts.{Sifts}
 use Rattle.spacetree.proofs.Steps.{updates_made}
-use Rattle.spacetree.proofs.Values.{child_cell, centre_is_digits, count_at_leaf}
+use Rattle.spacetree.proofs.Values.{centre_is_digits, count_at_leaf}
 
 -- the digits of a cell in its parent
 abbrev digits_in : CellKey → List ℕ

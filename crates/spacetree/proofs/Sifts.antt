@@ -10,8 +10,7 @@ use Rattle.peano_keys.specs.Grid.{Cells, Spacetree}
 use Rattle.spacetree.specs.Leaves.{is_among, ListsCells, ListsLeaves}
 use Rattle.spacetree.specs.Marked.{HasMarked, IsAddedWhere}
 use Rattle.spacetree.proofs.CellMaps.{cells_total, exact_cells, contains_cell, len_of_set}
-use Rattle.spacetree.proofs.CellSets.{itself, same_key, kept_by_insert, has_inserted, inserted_cases, len_by_insert}
-use Rattle.spacetree.proofs.Givens.{among_next}
+use Rattle.spacetree.proofs.CellSets.{itself, same_key, kept_by_insert, has_inserted, inserted_cases, len_by_insert, among_next}
 
 -- a set has the cells of another, and those of a list for which a fact holds
 abbrev pub Sifts : (CellKey → Type 0) → List CellKey → Cells → Cells → Type 0

@@ -1,10 +1,9 @@
-use Rattle.std.proofs.Common.{List, [], ◌∷◌, sym, subst, rules}
+use Rattle.std.proofs.Common.{[], ◌∷◌, sym, subst, rules}
 use Rattle.toml.specs.View.{table_view}
 use Rattle.grid_file.specs.declared.place.Part.TheVariants.{Refine}
 use Rattle.grid_file.specs.declared.place.KeyName.TheVariants.{Until}
 use Rattle.grid_file.specs.Faults.{Gives}
-use Rattle.grid_file.specs.Values.{state_in}
-use Rattle.grid_file.specs.Plan.{at_key, key_check, box_checks, zone_from, until_in}
+use Rattle.grid_file.specs.Plan.{key_check, box_checks, zone_from, until_in}
 use Rattle.grid_file.proofs.Searches.{first_append}
 use Rattle.grid_file.proofs.boxes.zone.Goals as goal
 

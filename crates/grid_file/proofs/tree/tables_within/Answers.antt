@@ -1,5 +1,5 @@
 use Rattle.std.proofs.Common.{sym, ◌∙◌}
-use Rattle.grid_file.proofs.Lists.{tables_within-many, tables_within-others, tables_within-few}
+use Rattle.grid_file.proofs.Lists.{tables_within-many, tables_within-few}
 use Rattle.grid_file.proofs.tree.tables_within.Goals as goal
 
 pub returns-then-items-gt1000-clause-value : goal.returns-then-items-gt1000-clause-value

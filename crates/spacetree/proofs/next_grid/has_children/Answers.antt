@@ -4,9 +4,8 @@ use Rattle.std.proofs.lemmas.Bool.{false≢true}
 use Rattle.std.specs.FinSet as set
 use Rattle.peano_keys.specs.Cell.{child_of}
 use Rattle.spacetree.specs.Digits.{number_in}
-use Rattle.spacetree.proofs.Children.{child_by_number, parent_of_child, third_digit}
+use Rattle.spacetree.proofs.Children.{child_by_number, parent_of_child, third_digit, child_cell}
 use Rattle.spacetree.proofs.NextGrids.{number_below}
-use Rattle.spacetree.proofs.Values.{child_cell}
 use Rattle.spacetree.proofs.next_grid.has_children.Goals as goal
 
 pub returns-then-not-contains : goal.returns-then-not-contains
