@@ -1,3 +1,4 @@
 pub mod Texts
 pub mod Report
 pub mod Course
+pub mod Run

@@ -3,10 +3,11 @@
 
 mod answer;
 mod course;
-
+mod ending;
+mod report;
 mod text;
-
+mod top;
 
 pub use answer::{Answer, LimitKind, Outcome};
 pub use text::{FixedText, refusal_text};
-
+pub use top::run;

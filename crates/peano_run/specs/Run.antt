@@ -1,0 +1,96 @@
+-- What a run does to its source and its sinks, by the answer that it ends with.
+use Rattle.std.specs.Prelude.{◌≡◌, ℕ, ◌<◌, ◌∷◌, List, [], length, take, ⊤, Option, Some, None, String, Vec, Result, Ok, Err}
+use Rattle.std.specs.declared.alloc.Global.{Global}
+use Rattle.std.specs.Io.KnownBytes.{Appends}
+use Rattle.peano_keys.specs.declared.dim.Dim.{Dim}
+use Rattle.peano_io.specs.Causes.{Rose}
+use Rattle.peano_run.specs.declared.answer.Answer.{Answer}
+use Rattle.peano_run.specs.declared.answer.Answer.TheVariants.{Done, Usage, ReadFault, Overflow, WriteFault}
+use Rattle.peano_run.specs.declared.ending.Ending.{Ending}
+use Rattle.peano_run.specs.Texts.{text_of}
+use Rattle.peano_run.specs.Report.{IsReport, IsRefused, OfPlan}
+
+-- the words are refused: no option is built yet, so every word is
+abbrev pub AreRefused : List (String Global) → Type 0
+AreRefused [] = ⊥
+AreRefused (word ∷ words) = Unit {0}
+
+-- the source was not touched where the words are refused, and is at its end where the run is done
+abbrev pub ReadsBy : Answer → Option (List ℕ) → Option (List ℕ) → Type 0
+ReadsBy Usage before after = after ≡ before
+ReadsBy Done None after = ⊤
+ReadsBy Done (Some bytes) after = after ≡ Some []
+ReadsBy _ before after = ⊤
+
+-- what the sink took: the whole report of the input, or its first bytes where a write failed, fewer than all
+abbrev pub WritesOf : Answer → List ℕ → Option (List ℕ) → Option (List ℕ) → Type 0
+WritesOf Done bytes before after = (text : List ℕ) × IsReport bytes text × Appends before after text
+WritesOf (WriteFault written) bytes before after = (text : List ℕ) × IsReport bytes text × Appends before after (take written text) × (written < length text)
+WritesOf _ bytes before after = ⊤
+
+-- so where the source tells what it had
+abbrev pub WritesBy : Answer → Option (List ℕ) → Option (List ℕ) → Option (List ℕ) → Type 0
+WritesBy answer None before after = ⊤
+WritesBy answer (Some bytes) before after = WritesOf answer bytes before after
+
+-- on every answer but these two nothing was written
+abbrev pub WritesNothing : {K : Type 0} → Answer → K → K → Type 0
+WritesNothing Done before after = ⊤
+WritesNothing (WriteFault written) before after = ⊤
+WritesNothing _ before after = after ≡ before
+
+-- each refusal of the file itself has its cause in the bytes
+abbrev pub RefusalOf : Answer → List ℕ → Type 0
+RefusalOf Done bytes = ⊤
+RefusalOf Usage bytes = ⊤
+RefusalOf ReadFault bytes = ⊤
+RefusalOf (WriteFault written) bytes = ⊤
+RefusalOf answer bytes = IsRefused bytes answer
+
+-- so where the source tells what it had
+abbrev pub RefusalBy : Answer → Option (List ℕ) → Type 0
+RefusalBy answer None = ⊤
+RefusalBy answer (Some bytes) = RefusalOf answer bytes
+
+-- a read fault comes only where the source's count rose, and nothing else leaves the count risen
+abbrev pub ReadFaultRose : Answer → ℕ → ℕ → Type 0
+ReadFaultRose ReadFault before now = Rose before now
+ReadFaultRose _ before now = now ≡ before
+
+-- a write fault comes only where the sink's count rose, and nothing else leaves the count risen
+abbrev pub WriteFaultRose : Answer → ℕ → ℕ → Type 0
+WriteFaultRose (WriteFault written) before now = Rose before now
+WriteFaultRose _ before now = now ≡ before
+
+-- an answer that comes before anything is written
+abbrev pub IsEarly : Answer → Type 0
+IsEarly Done = ⊥
+IsEarly Usage = ⊥
+IsEarly (WriteFault written) = ⊥
+IsEarly _ = Unit {0}
+
+-- the dimension is that in which the file's plan names a leaf, where the answer names one
+abbrev pub NamesIn : Dim → Answer → Option (List ℕ) → Type 0
+NamesIn dim (Overflow step leaf) (Some bytes) = OfPlan bytes (λ plan. plan.shape.dim ≡ dim)
+NamesIn dim _ input = ⊤
+
+-- what an ending of a run says of the file: its refusal has its cause, and it names a leaf in the plan's dimension
+abbrev pub EndsBy : Ending → List ℕ → Type 0
+EndsBy ending bytes = IsRefused bytes ending.answer × NamesIn ending.dim ending.answer (Some bytes)
+
+-- reading and reporting: the report of the input, which was read to its end, or the answer that stands in its place
+abbrev pub Reports : Option (List ℕ) → Option (List ℕ) → ℕ → ℕ → Result (Vec ℕ Global) Ending → Type 0
+Reports None after faults now (Ok text) = now ≡ faults
+Reports (Some bytes) after faults now (Ok text) = IsReport bytes text.items × (after ≡ Some []) × (now ≡ faults)
+Reports before after faults now (Err ending) = RefusalBy ending.answer before × ReadFaultRose ending.answer faults now × IsEarly ending.answer × NamesIn ending.dim ending.answer before
+
+-- a text was written whole, or in part where the count of faults rose
+pub data Tells (text : List ℕ) (before after : Option (List ℕ)) (faults now : ℕ) : Type 0 where
+  whole : Appends before after text → now ≡ faults → Tells text before after faults now
+  part : (written : ℕ) → Appends before after (take written text) → Rose faults now → Tells text before after faults now
+
+-- an answer's text was told, where it names a leaf in the dimension of the file's plan
+pub record TellsAnswer (answer : Answer) (input before after : Option (List ℕ)) (faults now : ℕ) : Type 0 where
+  pub dim : Dim
+  pub named : NamesIn dim answer input
+  pub told : Tells (text_of dim answer) before after faults now
