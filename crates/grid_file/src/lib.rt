@@ -1,7 +1,23 @@
-//! Reads a file: the plain form, which is a uniform grid in two dimensions with the diffusion solver.
+//! Reads a file: into its plan, or into the code and the place of the one refusal that it gets.
 #![tactic(auto)]
 
+mod boxes;
+mod fault;
+mod keys;
+mod place;
 mod plain;
+mod plan;
+mod reading;
+mod solver;
+#[cfg(test)]
+mod tests;
+mod text;
 mod tree;
+mod values;
 
+pub use fault::{Malformed, PlanFault};
+pub use place::{KeyName, Part, Place};
 pub use plain::{PlainPlan, read_plain};
+pub use plan::{Plan, is_printed, read_plan};
+
+pub use text::{PlaceText, place_text};

@@ -3,10 +3,10 @@ ghost use Rattle.std.specs.Prelude.{◌≡◌, ◌<◌, ◌≤◌, ◌^◌, All,
 ghost use Rattle.toml.specs.Data.{array, get_member};
 ghost use Rattle.toml.specs.View.{view, table_view, items_view};
 ghost use Rattle.spacetree.specs.Opening.{IsFill};
-ghost use Rattle.grid_file.specs.Tree.{has_only, is_one_of, tree_of};
+ghost use Rattle.grid_file.specs.Tree.{has_only, is_one_of};
 ghost use Rattle.grid_file.specs.Plain.{plain_plan, plan_in, plan_on, plain_keys, fill_keys, from_at, to_at, value_in, fill_on, fill_in, fill_of, fills_of, fills_within, fills_at, is_diffuse, IsPlainPlan, IsUpperCorner};
 
-use crate::tree::{corner, entry, number};
+use crate::tree::{corner, entry, number, tree};
 use peano_keys::State;
 use spacetree::{Fill, Listed};
 use std::alloc::{AllocError, Global};
@@ -256,22 +256,6 @@ fn plan_in(alloc: Global, table: &Table) -> Result<Option<PlainPlan>, AllocError
     match (dim, depth) {
         (Some(_), Some(depth)) => plan_on(alloc, depth as u32, table),
         _ => Ok(None),
-    }
-}
-
-// The tree of the bytes, none where they are no document.
-fn tree(alloc: Global, text: &[u8]) -> Result<Option<Table>, AllocError>
-    ensures { IfOk result (λ tree. option_map table_view tree ≡ tree_of text.now) }
-{
-    match toml::table_from_slice(alloc, text) {
-        Ok(table) => Ok(Some(table)),
-        Err(fault) => {
-            if fault.is_memory() {
-                Err(AllocError)
-            } else {
-                Ok(None)
-            }
-        }
     }
 }
 

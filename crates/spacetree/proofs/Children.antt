@@ -1,5 +1,6 @@
 -- Cells, their parents and their children.
-use Rattle.std.proofs.Common.{◌-◌, ◌/◌, ◌<◌, ◌^◌, length, slice_index, arith, ◌≡◌, ℕ, List, [], ◌∷◌, refl, ap, sym, ◌∙◌}
+use Rattle.std.proofs.Common.{◌-◌, ◌/◌, ◌<◌, ◌^◌, length, slice_index, arith, ◌≡◌, ℕ, List, [], ◌∷◌, refl, ap, sym, ◌∙◌, ◌+◌, ◌*◌}
+use Rattle.std.proofs.lemmas.Nat.{pow-add}
 use Rattle.peano_keys.specs.declared.dim.Dim.{Dim}
 use Rattle.peano_keys.specs.declared.dim.Dim.TheVariants.{Two, Three}
 use Rattle.peano_keys.specs.declared.cell.CellKey.{CellKey}
@@ -68,3 +69,32 @@ root_is Three q h e =
 pub third_digit : (dim : Dim) (k : List ℕ) → IsDigits dim k → slice_index k 2 < 3
 third_digit Two k h = let third : slice_index k 2 < 1 = h.third in omega arith
 third_digit Three k h = h.third
+
+-- a level has a third of the cells of the one below on an axis
+extent_below : (l : ℕ) → 3 ^ (l + 1) ≡ 3 * 3 ^ l
+extent_below l = omega (arith, pow-add 3 l 1)
+
+-- and three times those of the one above
+pub extent_above : (l : ℕ) → 0 < l → 3 ^ l ≡ 3 * 3 ^ (l - 1)
+extent_above l h = let e : l ≡ l - 1 + 1 = omega arith in ap (λ n. 3 ^ n) e ∙ extent_below (l - 1)
+
+-- the parent of a cell of the domain is one
+pub parent_cell : (dim : Dim) (c : CellKey) → IsCell dim c → 0 < c.level → IsCell dim (parent_of c)
+parent_cell Two c h pos =
+    let step = extent_above c.level pos in
+    let third : at c 2 < 1 = h.third in
+    record { shape = refl; level = omega (arith, h.level); first = omega (arith, h.first, step); second = omega (arith, h.second, step); third = omega arith }
+parent_cell Three c h pos =
+    let step = extent_above c.level pos in
+    record { shape = refl; level = omega (arith, h.level); first = omega (arith, h.first, step); second = omega (arith, h.second, step); third = omega (arith, h.third, step) }
+
+-- a child of a cell of the domain is one
+pub child_cell : (dim : Dim) (c : CellKey) (k : List ℕ) → IsCell dim c → c.level < 12 → IsDigits dim k → IsCell dim (child_of c k)
+child_cell Two c k h room d =
+    let step = extent_below c.level in
+    let third : at c 2 < 1 = h.third in
+    let digit : slice_index k 2 < 1 = d.third in
+    record { shape = refl; level = omega arith; first = omega (arith, h.first, d.first, step); second = omega (arith, h.second, d.second, step); third = omega arith }
+child_cell Three c k h room d =
+    let step = extent_below c.level in
+    record { shape = refl; level = omega arith; first = omega (arith, h.first, d.first, step); second = omega (arith, h.second, d.second, step); third = omega (arith, h.third, d.third, step) }

@@ -15,7 +15,8 @@ use Rattle.spacetree.specs.declared.shape.Zone.{Zone}
 use Rattle.spacetree.specs.Opening.{OpensRefined, ZoneRefines, Meets, Overlaps}
 use Rattle.spacetree.specs.Build.{IsZone, IsUnder, HasOpenedUnder, StandsFor, ancestor_of, overlaps, meets, zone_refines}
 use Rattle.spacetree.proofs.Children.{root_is}
-use Rattle.spacetree.proofs.Openings.{parent_cell, ancestor_level, ancestor_opens, ancestor_zone, any_weaker}
+use Rattle.spacetree.proofs.Children.{parent_cell}
+use Rattle.spacetree.proofs.Openings.{ancestor_level, ancestor_opens, ancestor_zone, any_weaker}
 
 decides_overlaps : (l x k from to : ℕ) → Decides (overlaps l x k from to) (Overlaps l x k from to)
 decides_overlaps l x k from to = Decides-ltb _ _

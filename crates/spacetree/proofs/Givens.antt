@@ -1,10 +1,8 @@
 -- Maps that give each cell of a list its state, and no other cell one.
-use Rattle.std.proofs.Common.{◌+◌, ◌<◌, length, take, get_or, ◌≡◌, ℕ, List, [], ◌∷◌, ◌++◌, Some, None, Option, Bool, true, false, ◌||◌, cond, refl, ap, sym, ◌∙◌, subst, IsSome, IfSome, is_some, unwrap_or}
+use Rattle.std.proofs.Common.{◌+◌, ◌<◌, length, take, get_or, ◌≡◌, ℕ, List, [], Some, None, Option, Bool, true, false, ◌||◌, cond, refl, ap, sym, ◌∙◌, subst, IsSome, IfSome, is_some, unwrap_or}
 use Rattle.std.specs.FinMap as map
-use Rattle.std.specs.List.{list_any}
 use Rattle.std.specs.Ordering.{eq_by_cmp}
 use Rattle.std.proofs.lemmas.Bool.{false≢true}
-use Rattle.std.proofs.lemmas.List.{take_more}
 use Rattle.peano_keys.specs.declared.cell.CellKey.{CellKey}
 use Rattle.peano_keys.specs.declared.state.State.{State}
 use Rattle.peano_keys.specs.State.{count_of}
@@ -15,7 +13,7 @@ use Rattle.solver_api.specs.Step.{IsLeafOf}
 use Rattle.spacetree.specs.Leaves.{is_among, ListsLeaves}
 use Rattle.spacetree.specs.Fields.{IsFieldOn}
 use Rattle.spacetree.proofs.CellMaps.{cells_total, exact_cells}
-use Rattle.spacetree.proofs.CellSets.{same_key}
+use Rattle.spacetree.proofs.CellSets.{same_key, among_next}
 
 -- the map has, at each cell of the list, what a function gives there, and nothing elsewhere
 abbrev pub Gives : (CellKey → Option State) → List CellKey → States → Type 0
@@ -30,17 +28,6 @@ gives_none given m e q = ap (λ f. map.get f q) e ∙ map.get-empty key_cmp q
 
 pub counts_none : (parts : ℕ) (m : States) → m ≡ map.empty → Counts parts m
 counts_none parts m e q = subst (λ o. IfSome o (λ s. count_of s ≡ parts)) (sym (ap (λ f. map.get f q) e ∙ map.get-empty key_cmp q)) tt
-
-any_push : (test : CellKey → Bool) (xs : List CellKey) (y : CellKey) → list_any test (xs ++ y ∷ []) ≡ (test y || list_any test xs)
-any_push test [] y = refl
-any_push test (x ∷ xs) y = ap (λ b. test x || b) (any_push test xs y) ∙ turn (test x) (test y) (list_any test xs) where
-  turn : (a b c : Bool) → (a || (b || c)) ≡ (b || (a || c))
-  turn true true c = refl
-  turn true false c = refl
-  turn false b c = refl
-
-among_next : (xs : List CellKey) (i : ℕ) (d q : CellKey) → i < length xs → is_among (take (i + 1) xs) q ≡ (eq_by_cmp key_cmp q (get_or xs i d) || is_among (take i xs) q)
-among_next xs i d q h = ap (list_any (eq_by_cmp key_cmp q)) (take_more xs i d h) ∙ any_push (eq_by_cmp key_cmp q) (take i xs) (get_or xs i d)
 
 pick : {X : Type 0} (b a : Bool) (v w : Option X) → (b ≡ true → v ≡ w) → cond b v (cond a w None) ≡ cond (b || a) w None
 pick true a v w h = h refl

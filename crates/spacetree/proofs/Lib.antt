@@ -9,3 +9,4 @@ pub mod Steps
 pub mod Openings
 pub mod Descents
 pub mod CellCounts
+pub mod Unique

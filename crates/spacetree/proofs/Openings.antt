@@ -7,26 +7,13 @@ use Rattle.peano_keys.specs.declared.dim.Dim.{Dim}
 use Rattle.peano_keys.specs.declared.dim.Dim.TheVariants.{Two, Three}
 use Rattle.peano_keys.specs.declared.cell.CellKey.{CellKey}
 use Rattle.peano_keys.specs.Cell.{IsCell, at, parent_of}
+use Rattle.spacetree.proofs.Children.{extent_above, parent_cell}
 use Rattle.peano_keys.specs.Grid.{Cells, Spacetree, IsGrid}
 use Rattle.spacetree.specs.declared.shape.Shape.{Shape}
 use Rattle.spacetree.specs.declared.shape.Zone.{Zone}
 use Rattle.spacetree.specs.Opening.{Opens, OpensRefined, ZoneRefines, Meets, Overlaps}
 use Rattle.spacetree.specs.Build.{IsZone, IsShape, HasOpened, HasAllOpened, ancestor_of}
 use Rattle.spacetree.proofs.CellSets.{inserted_cases}
-
--- a level has three times the cells of the one above on an axis
-pub extent_step : (l : ℕ) → 0 < l → 3 ^ l ≡ 3 * 3 ^ (l - 1)
-extent_step l h = let e : l ≡ l - 1 + 1 = omega arith in ap (λ n. 3 ^ n) e ∙ omega (arith, pow-add 3 (l - 1) 1)
-
--- the parent of a cell of the domain is one
-pub parent_cell : (dim : Dim) (c : CellKey) → IsCell dim c → 0 < c.level → IsCell dim (parent_of c)
-parent_cell Two c h pos =
-    let step = extent_step c.level pos in
-    let third : at c 2 < 1 = h.third in
-    record { shape = refl; level = omega (arith, h.level); first = omega (arith, h.first, step); second = omega (arith, h.second, step); third = omega arith }
-parent_cell Three c h pos =
-    let step = extent_step c.level pos in
-    record { shape = refl; level = omega (arith, h.level); first = omega (arith, h.first, step); second = omega (arith, h.second, step); third = omega (arith, h.third, step) }
 
 -- where a cell meets an interval, its parent does: `end` is the cells above on the axis, `unit` those of the interval's level
 wider : (end unit x from to : ℕ) → max (x * unit) (from * (3 * end)) < min ((x + 1) * unit) (to * (3 * end)) → max (x / 3 * unit) (from * end) < min ((x / 3 + 1) * unit) (to * end)
@@ -40,7 +27,7 @@ wider end unit x from to h =
 
 parent_overlaps : (l x k from to : ℕ) → 0 < l → Overlaps l x k from to → Overlaps (l - 1) (x / 3) k from to
 parent_overlaps l x k from to pos h =
-    wider (3 ^ (l - 1)) (3 ^ k) x from to (subst (λ (e : ℕ). max (x * 3 ^ k) (from * e) < min ((x + 1) * 3 ^ k) (to * e)) (extent_step l pos) h)
+    wider (3 ^ (l - 1)) (3 ^ k) x from to (subst (λ (e : ℕ). max (x * 3 ^ k) (from * e) < min ((x + 1) * 3 ^ k) (to * e)) (extent_above l pos) h)
 
 parent_meets : (dim : Dim) (z : Zone) (c : CellKey) → 0 < c.level → Meets dim z c → Meets dim z (parent_of c)
 parent_meets Two z c pos h = (parent_overlaps _ _ _ _ _ pos h.0, parent_overlaps _ _ _ _ _ pos h.1)

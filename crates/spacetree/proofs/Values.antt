@@ -1,36 +1,21 @@
 -- How many values the states have that a cell sees.
-use Rattle.std.proofs.Common.{zero, suc, ◌+◌, ◌*◌, ◌^◌, ◌<◌, arith, ◌≡◌, ℕ, List, Bool, true, false, ◌||◌, ◌==◌, cond, refl, ap, sym, ◌∙◌, Option, Some, None, IfSome, is_some, unwrap_or, slice_index}
+use Rattle.std.proofs.Common.{zero, suc, ◌+◌, ◌<◌, arith, ◌≡◌, ℕ, Bool, true, false, ◌||◌, ◌==◌, cond, refl, ap, sym, ◌∙◌, Option, Some, None, IfSome, is_some, unwrap_or}
 use Rattle.std.proofs.lemmas.Bool.{false≢true, or_parts}
-use Rattle.std.proofs.lemmas.Nat.{pow-add}
 use Rattle.std.specs.FinMap as map
 use Rattle.peano_keys.specs.declared.dim.Dim.{Dim}
 use Rattle.peano_keys.specs.declared.dim.Dim.TheVariants.{Two, Three}
 use Rattle.peano_keys.specs.declared.cell.CellKey.{CellKey}
 use Rattle.peano_keys.specs.declared.state.State.{State}
 use Rattle.peano_keys.specs.State.{count_of}
-use Rattle.peano_keys.specs.Cell.{IsCell, IsDigits, at, parent_of, child_of, centre_child, centre_digits}
+use Rattle.peano_keys.specs.Cell.{IsCell, IsDigits, parent_of, centre_child, centre_digits}
 use Rattle.peano_keys.specs.Grid.{Spacetree, IsGrid, is_refined, has_cell}
 use Rattle.peano_keys.specs.Field.{States, state_at, centre_state, covering_state}
 use Rattle.solver_api.specs.Step.{IsLeafOf}
 use Rattle.spacetree.specs.Fields.{IsFieldOn}
-use Rattle.spacetree.proofs.Children.{third_digit}
+use Rattle.spacetree.proofs.Children.{child_cell, parent_cell, third_digit}
 use Rattle.spacetree.proofs.Leaves.{leaf_from, child_there}
-use Rattle.spacetree.proofs.Openings.{parent_cell}
 
-extent_below : (l : ℕ) → 3 ^ (l + 1) ≡ 3 * 3 ^ l
-extent_below l = omega (arith, pow-add 3 l 1)
-
--- a child of a cell of the domain is one
-pub child_cell : (dim : Dim) (c : CellKey) (k : List ℕ) → IsCell dim c → c.level < 12 → IsDigits dim k → IsCell dim (child_of c k)
-child_cell Two c k h room d =
-    let step = extent_below c.level in
-    let third : at c 2 < 1 = h.third in
-    let digit : slice_index k 2 < 1 = d.third in
-    record { shape = refl; level = omega arith; first = omega (arith, h.first, d.first, step); second = omega (arith, h.second, d.second, step); third = omega arith }
-child_cell Three c k h room d =
-    let step = extent_below c.level in
-    record { shape = refl; level = omega arith; first = omega (arith, h.first, d.first, step); second = omega (arith, h.second, d.second, step); third = omega (arith, h.third, d.third, step) }
-
+-- the digits of the centre child are digits
 pub centre_is_digits : (dim : Dim) → IsDigits dim (centre_digits dim)
 centre_is_digits Two = record { shape = refl; first = omega arith; second = omega arith; third = omega arith }
 centre_is_digits Three = record { shape = refl; first = omega arith; second = omega arith; third = omega arith }

@@ -17,6 +17,10 @@ abbrev pub OverflowsIn : UpdateRule → MarkRule → Spacetree → States → �
 OverflowsIn updated marked t f zero c = ⊥
 OverflowsIn updated marked t f (suc n) c = (u : Spacetree) × (g : States) × Evaluates updated marked t f n u g × Overflows updated u g c
 
+-- none of so many steps overflows
+abbrev pub NeverOverflows : UpdateRule → MarkRule → Spacetree → States → ℕ → Type 0
+NeverOverflows updated marked t f steps = (s : ℕ) (c : CellKey) → s ≤ steps → ¬ OverflowsIn updated marked t f s c
+
 -- what a step that was refused says: its number and the leaf at which it overflows, or that memory was wanting
 abbrev pub StepFails : UpdateRule → Spacetree → States → ℕ → EvalFault → Type 0
 StepFails updated t f step (Overflow s c) = (s ≡ step) × Overflows updated t f c

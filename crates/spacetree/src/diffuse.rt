@@ -1,9 +1,9 @@
 //! Diffusion by the plain evaluator.
-ghost use Rattle.std.specs.Prelude.{IfOk, IfErr};
+ghost use Rattle.std.specs.Prelude.{IfOk, IfErr, OnOk};
 ghost use Rattle.peano_keys.specs.Grid.{IsGrid};
 ghost use Rattle.volume_solver.specs.Ranges.{IsDivisor, IsFactor};
 ghost use Rattle.spacetree.specs.Diffusion.{diffusion, unmarked};
-ghost use Rattle.spacetree.specs.Evaluation.{Evaluates, EndsIn};
+ghost use Rattle.spacetree.specs.Evaluation.{Evaluates, EndsIn, NeverOverflows};
 ghost use Rattle.spacetree.specs.Fields.{IsFieldOn};
 
 use crate::evaluation::evaluate;
@@ -30,6 +30,9 @@ pub fn evaluate_diffuse(
     ensures ok { IfOk result (λ after. Evaluates (diffusion grid.now.dim a b) (unmarked grid.now.dim) grid.now field.now steps grid.now after) }
     ensures field { IfOk result (λ after. IsFieldOn 1 grid.now after) }
     ensures err { IfErr result (λ fault. EndsIn (diffusion grid.now.dim a b) (unmarked grid.now.dim) grid.now field.now steps fault) }
+
+    // Where it goes through, no step overflows at any leaf.
+    ensures through { OnOk result (NeverOverflows (diffusion grid.now.dim a b) (unmarked grid.now.dim) grid.now field.now steps) }
 {
     let solver = Diffuse::new(grid.dim(), a, b, EdgeRule::Copy, None);
     evaluate(alloc, grid, field, &solver, steps)

@@ -1,11 +1,11 @@
 //! The plain evaluator: steps by coordinates over the sorted map.
-ghost use Rattle.std.specs.Prelude.{◌≡◌, ◌+◌, ◌<◌, ◌≤◌, ◌^◌, false, IfOk, IfErr, IfSome};
+ghost use Rattle.std.specs.Prelude.{◌≡◌, ◌+◌, ◌<◌, ◌≤◌, ◌^◌, false, IfOk, IfErr, IfSome, OnOk};
 ghost use Rattle.peano_keys.specs.State.{count_of};
 ghost use Rattle.peano_keys.specs.Grid.{IsGrid};
 ghost use Rattle.solver_api.specs.Step.{IsLeafOf, IsStep, new_state};
 ghost use Rattle.spacetree.specs.Leaves.{ListsLeaves};
 ghost use Rattle.spacetree.specs.Fields.{IsFieldOn};
-ghost use Rattle.spacetree.specs.Evaluation.{Evaluates, EndsIn, StepFails};
+ghost use Rattle.spacetree.specs.Evaluation.{Evaluates, EndsIn, NeverOverflows, StepFails};
 
 use crate::fault::EvalFault;
 use crate::field::Field;
@@ -86,6 +86,9 @@ pub fn evaluate<S: Solver>(
     ensures ok { IfOk result (λ after. Evaluates (S.updated solver.now) (S.marked solver.now) grid.now field.now steps grid.now after) }
     ensures field { IfOk result (λ after. IsFieldOn (S.parts_of solver.now) grid.now after) }
     ensures err { IfErr result (λ fault. EndsIn (S.updated solver.now) (S.marked solver.now) grid.now field.now steps fault) }
+
+    // Where it goes through, no step overflows at any leaf.
+    ensures through { OnOk result (NeverOverflows (S.updated solver.now) (S.marked solver.now) grid.now field.now steps) }
 {
     let leaves = grid.leaves(alloc)?;
     let mut current = copied(alloc, grid, field, leaves.as_slice(), solver.parts())?;

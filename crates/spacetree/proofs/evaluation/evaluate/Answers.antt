@@ -1,5 +1,6 @@
-use Rattle.std.proofs.Common.{sym, subst}
+use Rattle.std.proofs.Common.{sym, subst, ◌≤◌, arith}
 use Rattle.spacetree.specs.Evaluation.{EndsIn}
+use Rattle.spacetree.proofs.Unique.{never_overflows}
 use Rattle.spacetree.proofs.Steps.{evaluates_more, ends_in, err_and}
 use Rattle.spacetree.proofs.evaluation.evaluate.Goals as goal
 
@@ -17,3 +18,8 @@ loop-step-preserved g c = record {
   told = evaluates_more (g.S.Solver.updated c.args.solver.now) (g.S.Solver.marked c.args.solver.now) c.args.grid.now c.args.field.now c.loop-step.step c.args.grid.now c.loop-step.current c.args.grid.now c.in_ok-current-2.current c.loop-step.invariant.told c.in_ok-current-2.ensures.ok;
   field = c.in_ok-current-2.ensures.field;
 }
+
+pub returns-clause-through : goal.returns-clause-through
+returns-clause-through g c s key h =
+    let reached : s ≤ c.loop-step.step = omega (arith, h, c.loop-step-test.false) in
+    never_overflows (g.S.Solver.updated c.args.solver.now) (g.S.Solver.marked c.args.solver.now) c.args.grid.now c.args.field.now c.loop-step.step c.args.grid.now c.loop-step.current s key c.loop-step.invariant.told reached

@@ -1,17 +1,13 @@
-use Rattle.std.proofs.Common.{ap, ◌∙◌, sym, subst, ◌≡◌, ◌+◌, [], List, get_or, take, Some, Option, refl}
+use Rattle.std.proofs.Common.{ap, ◌∙◌, sym, subst, ◌≡◌, ◌+◌, List, get_or, take, Some, Option, refl}
 use Rattle.std.proofs.lemmas.List.{take_all}
 use Rattle.peano_keys.specs.declared.cell.CellKey.{CellKey}
 use Rattle.peano_keys.specs.declared.state.State.{State}
 use Rattle.peano_keys.specs.declared.dim.Dim.{Dim}
 use Rattle.peano_keys.specs.Cell.{IsCell}
-use Rattle.spacetree.specs.Leaves.{is_among}
 use Rattle.spacetree.specs.Opening.{opening_state}
-use Rattle.spacetree.proofs.CellSets.{among_at}
+use Rattle.spacetree.proofs.CellSets.{leaf_at, nowhere}
 use Rattle.spacetree.proofs.Givens.{Gives, Counts, gives_none, counts_none, gives_more, counts_more, field_on, given_at_leaf, none_elsewhere}
 use Rattle.spacetree.proofs.field.Field.opening.Goals as goal
-
-abbrev none : CellKey
-none = record { level = 0; x = [] }
 
 pub loop-leaf-init : goal.loop-leaf-init
 loop-leaf-init c = record {
@@ -21,22 +17,21 @@ loop-leaf-init c = record {
 
 pub opening_state-requires-clause-cell : goal.opening_state-requires-clause-cell
 opening_state-requires-clause-cell c =
-    let cells = c.as_slice-leaf-items.result.now in
-    let k : CellKey = get_or cells c.loop-leaf.leaf-index none in
+    let k : CellKey = get_or c.as_slice-leaf-items.result.now c.loop-leaf.leaf-index nowhere in
     subst (λ (d : Dim). IsCell d k) (sym c.dim-dim.ensures)
-    ((c.in_ok-leaves.ensures.members k).0 (ap (λ l. is_among l k) (sym c.as_slice-leaf-items.ensures.value) ∙ among_at cells c.loop-leaf.leaf-index none c.loop-leaf-test.true)).cell
+    (leaf_at c.args.grid.now c.in_ok-leaves.leaves.items c.as_slice-leaf-items.result.now c.loop-leaf.leaf-index c.in_ok-leaves.ensures c.as_slice-leaf-items.ensures.value c.loop-leaf-test.true).cell
 
 pub loop-leaf-preserved : goal.loop-leaf-preserved
 loop-leaf-preserved c =
     let cells = c.as_slice-leaf-items.result.now in
-    let k : CellKey = get_or cells c.loop-leaf.leaf-index none in
+    let k : CellKey = get_or cells c.loop-leaf.leaf-index nowhere in
     let fills = c.args.fills.now in
     let parts = c.args.parts in
     let given : CellKey → Option State = λ q. Some (opening_state c.args.grid.now.dim fills parts q) in
     let value : given k ≡ Some c.opening_state.result = ap Some (ap (λ d. opening_state d fills parts k) (sym c.dim-dim.ensures) ∙ sym c.opening_state.ensures.value) in
     let is = c.in_ok-set.ensures.ok in
     record {
-      gives = subst (Gives given (take (c.loop-leaf.leaf-index + 1) cells)) (sym is) (gives_more given cells c.loop-leaf.leaf-index none c.loop-leaf.field c.opening_state.result c.loop-leaf-test.true c.loop-leaf.invariant.gives value);
+      gives = subst (Gives given (take (c.loop-leaf.leaf-index + 1) cells)) (sym is) (gives_more given cells c.loop-leaf.leaf-index nowhere c.loop-leaf.field c.opening_state.result c.loop-leaf-test.true c.loop-leaf.invariant.gives value);
       counts = subst (Counts parts) (sym is) (counts_more parts c.loop-leaf.field k c.opening_state.result c.loop-leaf.invariant.counts c.opening_state.ensures.count);
     }
 

@@ -1,4 +1,4 @@
-use Rattle.std.proofs.Common.{arith, ◌≡◌, ◌<◌, ◌≤◌, [], ap, ◌∙◌, inl, inr, subst, sym, true, get_or, take}
+use Rattle.std.proofs.Common.{arith, ◌≡◌, ◌<◌, ◌≤◌, ap, ◌∙◌, inl, inr, subst, sym, true, take}
 use Rattle.std.proofs.Math.Nat.{eq-or-lt_of_le}
 use Rattle.std.proofs.lemmas.List.{take_all}
 use Rattle.std.proofs.lemmas.Bool.{false≢true}
@@ -8,34 +8,25 @@ use Rattle.peano_keys.specs.declared.cell.CellKey.{CellKey}
 use Rattle.peano_keys.specs.Cell.{parent_of, key_cmp, root}
 use Rattle.solver_api.specs.Step.{IsLeafOf}
 use Rattle.spacetree.specs.Leaves.{is_among}
-use Rattle.spacetree.proofs.CellSets.{among_at, among_more}
+use Rattle.spacetree.proofs.CellSets.{among_more, listed_at, nowhere}
 use Rattle.spacetree.proofs.Children.{root_is}
 use Rattle.spacetree.proofs.Leaves.{leaf_there, parent_refined}
 use Rattle.spacetree.proofs.grid.Grid.leaves.Goals as goal
-
-abbrev none : CellKey
-none = record { level = 0; x = [] }
 
 pub add_leaf-requires-clause-within : goal.add_leaf-requires-clause-within
 add_leaf-requires-clause-within c q h = absurd (false≢true (sym (set.contains-empty key_cmp q) ∙ ap (λ s. set.contains s q) (sym c.new-found.ensures) ∙ h))
 
 pub add_leaves-requires-clause-refined : goal.add_leaves-requires-clause-refined
 add_leaves-requires-clause-refined c =
-    let cells = c.as_slice-parent-items.result.now in
-    let p : CellKey = get_or cells c.loop-parent.parent-index none in
-    sym (c.in_ok-parents.ensures.members p) ∙ ap (λ l. is_among l p) (sym c.as_slice-parent-items.ensures.value) ∙ among_at cells c.loop-parent.parent-index none c.loop-parent-test.true
+    listed_at c.args.self.now.refined c.in_ok-parents.parents.items c.as_slice-parent-items.result.now c.loop-parent.parent-index c.in_ok-parents.ensures c.as_slice-parent-items.ensures.value c.loop-parent-test.true
 
 pub add_leaves-requires-clause-cell : goal.add_leaves-requires-clause-cell
 add_leaves-requires-clause-cell c =
-    let cells = c.as_slice-parent-items.result.now in
-    let p : CellKey = get_or cells c.loop-parent.parent-index none in
-    c.requires.cells p (sym (c.in_ok-parents.ensures.members p) ∙ ap (λ l. is_among l p) (sym c.as_slice-parent-items.ensures.value) ∙ among_at cells c.loop-parent.parent-index none c.loop-parent-test.true)
+    c.requires.cells _ (listed_at c.args.self.now.refined c.in_ok-parents.parents.items c.as_slice-parent-items.result.now c.loop-parent.parent-index c.in_ok-parents.ensures c.as_slice-parent-items.ensures.value c.loop-parent-test.true)
 
 pub add_leaves-requires-clause-level : goal.add_leaves-requires-clause-level
 add_leaves-requires-clause-level c =
-    let cells = c.as_slice-parent-items.result.now in
-    let p : CellKey = get_or cells c.loop-parent.parent-index none in
-    c.requires.levels p (sym (c.in_ok-parents.ensures.members p) ∙ ap (λ l. is_among l p) (sym c.as_slice-parent-items.ensures.value) ∙ among_at cells c.loop-parent.parent-index none c.loop-parent-test.true)
+    c.requires.levels _ (listed_at c.args.self.now.refined c.in_ok-parents.parents.items c.as_slice-parent-items.result.now c.loop-parent.parent-index c.in_ok-parents.ensures c.as_slice-parent-items.ensures.value c.loop-parent-test.true)
 
 pub loop-parent-preserved : goal.loop-parent-preserved
 loop-parent-preserved c =
@@ -43,7 +34,7 @@ loop-parent-preserved c =
     record {
       within = after.within;
       root = λ h. after.kept root (c.loop-parent.invariant.root h);
-      below = λ q leaf pos h. elim (among_more c.as_slice-parent-items.result.now c.loop-parent.parent-index none (parent_of q) c.loop-parent-test.true h) [
+      below = λ q leaf pos h. elim (among_more c.as_slice-parent-items.result.now c.loop-parent.parent-index nowhere (parent_of q) c.loop-parent-test.true h) [
         | inl e ↦ after.kept q (c.loop-parent.invariant.below q leaf pos e)
         | inr e ↦ after.children q leaf pos e
       ];

@@ -1,6 +1,6 @@
 use Rattle.std.proofs.Common.{sym, ◌∙◌, true≢false}
 use Rattle.grid_file.proofs.Trees.{no_tree, this_tree}
-use Rattle.grid_file.proofs.plain.tree.Goals as goal
+use Rattle.grid_file.proofs.tree.tree.Goals as goal
 
 pub returns-in-Ok : goal.returns-in-Ok
 returns-in-Ok c = sym (this_tree _ _ c.in-Ok.ensures.ok.0 c.in-Ok.ensures.ok.1)

@@ -1,0 +1,50 @@
+//! Why a file gives no plan.
+ghost use Rattle.std.specs.Prelude.{◌≡◌};
+ghost use Rattle.grid_file.specs.Faults.{malformed};
+
+use crate::place::Place;
+use std::alloc::{AllocError, AllocFailed};
+use thiserror::Error;
+
+/// A refusal: its code, 1 to 14, and its place.
+#[derive(Clone, Copy, Debug, PartialEq, Eq)]
+pub struct Malformed {
+    pub code: u8,
+    pub place: Place,
+}
+
+/// Why a file gives no plan: it is malformed, or memory ran out.
+#[derive(Clone, Copy, Debug, PartialEq, Eq, Error)]
+pub enum PlanFault {
+    #[error("malformed")]
+    Malformed(Malformed),
+    #[error("out of memory")]
+    NoMemory,
+}
+
+impl From<AllocError> for PlanFault {
+    ghost use Rattle.grid_file.specs.declared.fault.PlanFault.TheVariants.{NoMemory};
+
+    ghost from_gives = { λ _ fault. fault ≡ NoMemory };
+
+    fn from(_: AllocError) -> PlanFault {
+        PlanFault::NoMemory
+    }
+}
+
+impl<T: Drop> From<AllocFailed<T>> for PlanFault {
+    ghost use Rattle.grid_file.specs.declared.fault.PlanFault.TheVariants.{NoMemory};
+
+    ghost from_gives = { λ _ fault. fault ≡ NoMemory };
+
+    fn from(_: AllocFailed<T>) -> PlanFault {
+        PlanFault::NoMemory
+    }
+}
+
+// The refusal of a place.
+pub(crate) fn refused(code: u8, place: Place) -> PlanFault
+    ensures { result ≡ PlanFault.Malformed (malformed code place) }
+{
+    PlanFault::Malformed(Malformed { code, place })
+}

@@ -1,0 +1,116 @@
+-- A step and an evaluation lead to one grid and one field, so an evaluation that goes through overflows in none of its steps.
+use Rattle.std.proofs.Common.{zero, suc, ◌^◌, ◌<◌, ◌≤◌, length, arith, ◌≡◌, ℕ, Bool, true, false, refl, sym, ◌∙◌, subst, ◌⊎◌, inl, inr, Option, Some, None, IsSome, IsNone}
+use Rattle.std.proofs.Math.Nat.{eq-or-lt_of_le}
+use Rattle.std.proofs.lemmas.Bool.{cases_lt, false≢true}
+use Rattle.std.specs.Cmp.{both_ways}
+use Rattle.std.specs.FinMap as map
+use Rattle.std.specs.FinSet as set
+use Rattle.peano_keys.specs.declared.dim.Dim.{Dim}
+use Rattle.peano_keys.specs.declared.cell.CellKey.{CellKey}
+use Rattle.peano_keys.specs.declared.state.State.{State}
+use Rattle.peano_keys.specs.declared.side.Mark.{Mark}
+use Rattle.peano_keys.specs.Dim.{third_extent}
+use Rattle.peano_keys.specs.Cell.{IsCell, at}
+use Rattle.peano_keys.specs.Grid.{Spacetree, is_refined, is_leaf}
+use Rattle.peano_keys.specs.Field.{States}
+use Rattle.peano_keys.specs.Next.{IsNextGrid}
+use Rattle.solver_api.specs.Step.{UpdateRule, MarkRule, IsLeafOf, IsStep, Overflows, marks_of, new_state}
+use Rattle.spacetree.specs.Evaluation.{Evaluates, OverflowsIn}
+use Rattle.spacetree.proofs.CellMaps.{cells_total, exact_cells}
+
+below : (a b : ℕ) → (a < b) ⊎ ¬ (a < b)
+below a b = elim (cases_lt a b) [ inl h ↦ inl h | inr h ↦ inr (λ g. absurd (omega arith)) ]
+
+at_most : (a b : ℕ) → (a ≤ b) ⊎ ¬ (a ≤ b)
+at_most a b = elim (cases_lt b a) [ inl h ↦ inr (λ g. absurd (omega arith)) | inr h ↦ inl h ]
+
+three_or_not : (a : ℕ) → (a ≡ 3) ⊎ ¬ (a ≡ 3)
+three_or_not a = elim (cases_lt a 3) [
+  | inl h ↦ inr (λ g. absurd (omega arith))
+  | inr h ↦ elim (cases_lt 3 a) [ inl k ↦ inr (λ g. absurd (omega arith)) | inr k ↦ inl (omega arith) ]
+]
+
+-- whether a key is a cell of the domain can be told
+cell_or_not : (dim : Dim) (c : CellKey) → IsCell dim c ⊎ ¬ IsCell dim c
+cell_or_not dim c =
+    elim (three_or_not (length c.x)) [
+      | inr apart ↦ inr (λ h. apart h.shape)
+      | inl shape ↦ elim (at_most c.level 12) [
+        | inr apart ↦ inr (λ h. apart h.level)
+        | inl level ↦ elim (below (at c 0) (3 ^ c.level)) [
+          | inr apart ↦ inr (λ h. apart h.first)
+          | inl first ↦ elim (below (at c 1) (3 ^ c.level)) [
+            | inr apart ↦ inr (λ h. apart h.second)
+            | inl second ↦ elim (below (at c 2) (third_extent dim (3 ^ c.level))) [
+              | inr apart ↦ inr (λ h. apart h.third)
+              | inl third ↦ inl record { shape = shape; level = level; first = first; second = second; third = third }
+            ]
+          ]
+        ]
+      ]
+    ]
+
+true_or_not : (b : Bool) → (b ≡ true) ⊎ ¬ (b ≡ true)
+true_or_not true = inl refl
+true_or_not false = inr (λ h. false≢true h)
+
+leaf_or_not : (t : Spacetree) (c : CellKey) → IsLeafOf t c ⊎ ¬ IsLeafOf t c
+leaf_or_not t c =
+    elim (cell_or_not t.dim c) [
+      | inr apart ↦ inr (λ h. apart h.cell)
+      | inl cell ↦ elim (true_or_not (is_leaf t c)) [ inr apart ↦ inr (λ h. apart h.leaf) | inl leaf ↦ inl record { cell = cell; leaf = leaf } ]
+    ]
+
+-- marks make one next grid
+one_grid : (old : Spacetree) (marks : CellKey → Mark) (a b : Spacetree) → IsNextGrid old marks a → IsNextGrid old marks b → a ≡ b
+one_grid old marks a b h g =
+    let dims : a.dim ≡ b.dim = h.dim ∙ sym g.dim in
+    let sets : a.refined ≡ b.refined = set.same_set cells_total exact_cells a.refined b.refined (λ c. both_ways (is_refined a c) (is_refined b c) (λ e. (g.refined c).1 ((h.refined c).0 e)) (λ e. (h.refined c).1 ((g.refined c).0 e))) in
+    λ i. record { dim = dims i; refined = sets i }
+
+one_field : (updated : UpdateRule) (marked : MarkRule) (t : Spacetree) (f : States) (new : Spacetree) (a b : States) → IsStep updated marked t f new a → IsStep updated marked t f new b → a ≡ b
+one_field updated marked t f new a b h g = map.same_map cells_total exact_cells a b (λ c. elim (leaf_or_not new c) [
+  | inl leaf ↦ h.leaves c leaf ∙ sym (g.leaves c leaf)
+  | inr apart ↦ h.others c apart ∙ sym (g.others c apart)
+])
+
+-- a grid and its field
+abbrev Both : Type 0
+Both = Spacetree × States
+
+-- a step leads to one grid and field
+one_step : (updated : UpdateRule) (marked : MarkRule) (t : Spacetree) (f : States) (u : Spacetree) (a : States) (v : Spacetree) (b : States) → IsStep updated marked t f u a → IsStep updated marked t f v b → ◌≡◌ {A = Both} (u, a) (v, b)
+one_step updated marked t f u a v b h g =
+    let grids : u ≡ v = one_grid t (marks_of marked t f) u v h.grid g.grid in
+    let fields : a ≡ b = one_field updated marked t f v a b (subst (λ (w : Spacetree). IsStep updated marked t f w a) grids h) g in
+    λ i. (grids i, fields i)
+
+-- so many steps lead to one grid and field
+pub one_end : (updated : UpdateRule) (marked : MarkRule) (t : Spacetree) (f : States) (n : ℕ) (u : Spacetree) (a : States) (v : Spacetree) (b : States) → Evaluates updated marked t f n u a → Evaluates updated marked t f n v b → ◌≡◌ {A = Both} (u, a) (v, b)
+one_end updated marked t f zero u a v b h g = λ i. ((h.0 ∙ sym g.0) i, (h.1 ∙ sym g.1) i)
+one_end updated marked t f (suc n) u a v b h g =
+    let same : ◌≡◌ {A = Both} (h.0, h.1) (g.0, g.1) = one_end updated marked t f n h.0 h.1 g.0 g.1 h.2 g.2 in
+    one_step updated marked g.0 g.1 u a v b (subst (λ (p : Both). IsStep updated marked p.0 p.1 u a) same h.3) g.3
+
+-- the steps before the last one of an evaluation
+earlier : (updated : UpdateRule) (marked : MarkRule) (t : Spacetree) (f : States) (n : ℕ) (u : Spacetree) (a : States) (s : ℕ) → s < n → Evaluates updated marked t f n u a → (v : Spacetree) × (b : States) × (w : Spacetree) × (d : States) × Evaluates updated marked t f s v b × IsStep updated marked v b w d
+earlier updated marked t f zero u a s h told = absurd (omega arith)
+earlier updated marked t f (suc n) u a s h told =
+    let le : s ≤ n = omega arith in
+    elim (eq-or-lt_of_le le) [
+      | inl e ↦ (told.0, told.1, u, a, subst (λ k. Evaluates updated marked t f k told.0 told.1) (sym e) told.2, told.3)
+      | inr l ↦ earlier updated marked t f n told.0 told.1 s l told.2
+    ]
+
+some_and_none : (o : Option State) → IsSome o → IsNone o → ⊥
+some_and_none None h g = absurd (false≢true h)
+some_and_none (Some s) h g = absurd (false≢true (sym g))
+
+-- an evaluation that goes through overflows in none of its steps
+pub never_overflows : (updated : UpdateRule) (marked : MarkRule) (t : Spacetree) (f : States) (n : ℕ) (u : Spacetree) (a : States) (s : ℕ) (c : CellKey) → Evaluates updated marked t f n u a → s ≤ n → OverflowsIn updated marked t f s c → ⊥
+never_overflows updated marked t f n u a zero c told h fails = fails
+never_overflows updated marked t f n u a (suc s) c told h fails =
+    let part = earlier updated marked t f n u a s (omega arith) told in
+    let same = one_end updated marked t f s fails.0 fails.1 part.0 part.1 fails.2 part.4 in
+    let over = subst (λ (p : Both). Overflows updated p.0 p.1 c) same fails.3 in
+    some_and_none (new_state updated part.0 part.1 c) (part.5.updates c over.leaf) over.failed
