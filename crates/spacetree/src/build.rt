@@ -17,18 +17,8 @@ use std::alloc::{AllocError, Global};
 // How many cells a grid has at most.
 const MOST_CELLS: u64 = 200_000;
 
-// A number of cells of a level in the finest unit.
-#[tactic(auto, using(crate::proofs::Boxes::scaled_fits))]
-fn scaled(n: u32, level: u32) -> u64
-    requires number { n ≤ 531441 }
-    requires level { level ≤ 12 }
-    ensures { result ≡ n * 3 ^ level }
-{
-    u64::from(n) * pow3(level)
-}
-
 // Whether the inside of a cell meets an interval of cells of another level, on one axis.
-#[tactic(auto, using(peano_keys::proofs::Powers::pow3_by_12))]
+#[tactic(auto, using(crate::proofs::Boxes::scaled_fits, peano_keys::proofs::Powers::pow3_by_12))]
 fn overlaps(level: u32, x: u32, zone_level: u32, from: u32, to: u32) -> bool
     requires level { level ≤ 12 }
     requires zone_level { zone_level ≤ 12 }
@@ -37,8 +27,10 @@ fn overlaps(level: u32, x: u32, zone_level: u32, from: u32, to: u32) -> bool
     requires end { to ≤ 3 ^ zone_level }
     ensures { result ≡ overlaps level x zone_level from to }
 {
-    let start = scaled(x, zone_level).max(scaled(from, level));
-    let end = scaled(x + 1, zone_level).min(scaled(to, level));
+    let width = pow3(zone_level);
+    let zone_width = pow3(level);
+    let start = (u64::from(x) * width).max(u64::from(from) * zone_width);
+    let end = ((u64::from(x) + 1) * width).min(u64::from(to) * zone_width);
     start < end
 }
 
@@ -49,12 +41,14 @@ fn zone_refines(dim: Dim, depth: u32, zone: &Zone, key: &CellKey) -> bool
     requires zone { IsZone dim depth zone.now }
     ensures { result ≡ zone_refines dim key.now zone.now }
 {
+    if key.level >= zone.until {
+        return false;
+    }
     let third = match dim {
         Dim::Two => true,
         Dim::Three => overlaps(key.level, key.x[2], zone.level, zone.from[2], zone.to[2]),
     };
-    key.level < zone.until
-        && overlaps(key.level, key.x[0], zone.level, zone.from[0], zone.to[0])
+    overlaps(key.level, key.x[0], zone.level, zone.from[0], zone.to[0])
         && overlaps(key.level, key.x[1], zone.level, zone.from[1], zone.to[1])
         && third
 }
