@@ -29,7 +29,7 @@ pub one_overflow : (updated : UpdateRule) (marked : MarkRule) (t : Spacetree) (f
 one_overflow updated marked t f zero c ends = absurd ends.1
 one_overflow updated marked t f (suc zero) c ends =
     let told = ends.1 in
-    subst (λ (h : States). Overflows updated t h c) told.2.1 (subst (λ (s : Spacetree). Overflows updated s told.1 c) told.2.0 told.3.1)
+    subst (λ (h : States). Overflows updated t h c) told.2.1 (subst (λ (s : Spacetree). Overflows updated s told.1 c) told.2.0 told.3)
 one_overflow updated marked t f (suc (suc n)) c ends = absurd (omega (arith, ends.0))
 
 -- and one that is crowded is so there
@@ -37,7 +37,7 @@ pub one_crowded : (updated : UpdateRule) (marked : MarkRule) (t : Spacetree) (f 
 one_crowded updated marked t f zero cells ends = absurd ends.1
 one_crowded updated marked t f (suc zero) cells ends =
     let told = ends.1 in
-    subst (λ (h : States). Crowds updated marked t h cells) told.2.1 (subst (λ (s : Spacetree). Crowds updated marked s told.1 cells) told.2.0 told.3.1)
+    subst (λ (h : States). Crowds updated marked t h cells) told.2.1 (subst (λ (s : Spacetree). Crowds updated marked s told.1 cells) told.2.0 told.3)
 one_crowded updated marked t f (suc (suc n)) cells ends = absurd (omega (arith, ends.0))
 
 -- the moment of a course after a step has been shown

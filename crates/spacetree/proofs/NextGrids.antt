@@ -8,18 +8,16 @@ use Rattle.peano_keys.specs.declared.cell.CellKey.{CellKey}
 use Rattle.peano_keys.specs.declared.state.State.{State}
 use Rattle.peano_keys.specs.declared.side.Mark.{Mark}
 use Rattle.peano_keys.specs.declared.side.Mark.TheVariants.{Refine, Coarsen}
-use Rattle.peano_keys.specs.Dim.{axes}
 use Rattle.peano_keys.specs.State.{count_of}
 use Rattle.peano_keys.specs.Cell.{IsCell, IsDigits, at, triple, parent_of, child_of, centre_child, centre_digits}
 use Rattle.peano_keys.specs.Grid.{Cells, Spacetree, IsGrid, is_refined, has_cell, is_leaf}
 use Rattle.peano_keys.specs.Field.{States, state_at}
 use Rattle.peano_keys.specs.Next.{Merges, IsNextGrid}
 use Rattle.solver_api.specs.Step.{UpdateRule, MarkRule, IsLeafOf, IsStep, marks_of, source_of}
-use Rattle.spacetree.specs.Digits.{number_in}
 use Rattle.spacetree.specs.Leaves.{ListsCells}
 use Rattle.spacetree.specs.Fields.{IsFieldOn}
 use Rattle.spacetree.specs.Marked.{AreMarked, HasChildren, HasNewStates, Inherits}
-use Rattle.spacetree.proofs.Children.{key_from_parts, child_cell}
+use Rattle.spacetree.proofs.Children.{child_cell, key_from_parts}
 use Rattle.spacetree.proofs.Givens.{there, away}
 use Rattle.spacetree.proofs.Leaves.{unrefined, leaf_there, parent_refined}
 use Rattle.spacetree.proofs.Sifts.{Sifts}
@@ -36,11 +34,6 @@ digits_are Three c h = record { shape = refl; first = omega arith; second = omeg
 
 its_own_child : (c : CellKey) → length c.x ≡ 3 → 0 < c.level → child_of (parent_of c) (digits_in c) ≡ c
 its_own_child c h pos = sym (key_from_parts c _ _ _ _ h (omega arith) (omega arith) (omega arith) (omega arith))
-
--- the number of a cell among its siblings
-pub number_below : (dim : Dim) (c : CellKey) → number_in dim c < 3 ^ axes dim
-number_below Two c = omega arith
-number_below Three c = omega arith
 
 refine_coarsens : (m : Mark) → m ≡ Refine → m ≡ Coarsen → ⊥
 refine_coarsens m h g = cc

@@ -23,7 +23,7 @@ use Rattle.spacetree.specs.declared.fault.EvalFault.{EvalFault}
 use Rattle.spacetree.specs.declared.fault.EvalFault.TheVariants.{Overflow, Crowded, NoMemory}
 use Rattle.spacetree.specs.Leaves.{is_among, ListsLeaves}
 use Rattle.spacetree.specs.Fields.{IsFieldOn}
-use Rattle.spacetree.specs.Evaluation.{Evaluates, FailsIn, EndsIn, IsServedStep, StepFails}
+use Rattle.spacetree.specs.Evaluation.{Evaluates, OverflowsIn, CrowdsIn, Crowds, EndsIn, IsServedStep, StepFails}
 use Rattle.spacetree.specs.Marked.{HasNewStates, NextFails}
 use Rattle.spacetree.proofs.CellMaps.{cells_total}
 use Rattle.spacetree.proofs.CellSets.{same_key, among_at}
@@ -105,9 +105,11 @@ fails_at updated t f cells i d lists h made none = record {
 pub evaluates_more : (updated : UpdateRule) (marked : MarkRule) (t : Spacetree) (f : States) (n : ℕ) (u : Spacetree) (g : States) (t' : Spacetree) (f' : States) → Evaluates updated marked t f n u g → IsServedStep updated marked u g t' f' → Evaluates updated marked t f (n + 1) t' f'
 evaluates_more updated marked t f n u g t' f' told step = subst (λ k. Evaluates updated marked t f k t' f') (sym (add-one n)) (u, g, told, step)
 
-fails_next : (updated : UpdateRule) (marked : MarkRule) (t : Spacetree) (f : States) (n : ℕ) (u : Spacetree) (g : States) (fault : EvalFault) → Evaluates updated marked t f n u g → StepFails updated marked u g (n + 1) fault → FailsIn updated marked t f (n + 1) fault
-fails_next updated marked t f n u g fault told fails =
-    subst (λ k. FailsIn updated marked t f k fault) (sym (add-one n)) (u, g, told, subst (λ k. StepFails updated marked u g k fault) (add-one n) fails)
+overflows_next : (updated : UpdateRule) (marked : MarkRule) (t : Spacetree) (f : States) (n : ℕ) (u : Spacetree) (g : States) (c : CellKey) → Evaluates updated marked t f n u g → Overflows updated u g c → OverflowsIn updated marked t f (n + 1) c
+overflows_next updated marked t f n u g c told fails = subst (λ k. OverflowsIn updated marked t f k c) (sym (add-one n)) (u, g, told, fails)
+
+crowds_next : (updated : UpdateRule) (marked : MarkRule) (t : Spacetree) (f : States) (n : ℕ) (u : Spacetree) (g : States) (cells : ℕ) → Evaluates updated marked t f n u g → Crowds updated marked u g cells → CrowdsIn updated marked t f (n + 1) cells
+crowds_next updated marked t f n u g cells told fails = subst (λ k. CrowdsIn updated marked t f k cells) (sym (add-one n)) (u, g, told, fails)
 
 -- a next grid that is refused refuses the step
 pub next_fails : (updated : UpdateRule) (marked : MarkRule) (t : Spacetree) (f : States) (step : ℕ) (fault : EvalFault) → ((c : CellKey) → IsLeafOf t c → IsSome (new_state updated t f c)) → NextFails t (marks_of marked t f) step fault → StepFails updated marked t f step fault
@@ -118,9 +120,9 @@ next_fails updated marked t f step NoMemory made fails = tt
 -- a step that is refused ends the evaluation
 pub ends_in : (updated : UpdateRule) (marked : MarkRule) (t : Spacetree) (f : States) (n steps : ℕ) (u : Spacetree) (g : States) (fault : EvalFault) → n < steps → Evaluates updated marked t f n u g → StepFails updated marked u g (n + 1) fault → EndsIn updated marked t f steps fault
 ends_in updated marked t f n steps u g (Overflow s c) h told fails =
-    (omega (arith, fails.0), subst (λ k. FailsIn updated marked t f k (Overflow s c)) (sym fails.0) (fails_next updated marked t f n u g (Overflow s c) told fails))
+    (omega (arith, fails.0), subst (λ k. OverflowsIn updated marked t f k c) (sym fails.0) (overflows_next updated marked t f n u g c told fails.1))
 ends_in updated marked t f n steps u g (Crowded s cells) h told fails =
-    (omega (arith, fails.0), subst (λ k. FailsIn updated marked t f k (Crowded s cells)) (sym fails.0) (fails_next updated marked t f n u g (Crowded s cells) told fails))
+    (omega (arith, fails.0), subst (λ k. CrowdsIn updated marked t f k cells) (sym fails.0) (crowds_next updated marked t f n u g cells told fails.1))
 ends_in updated marked t f n steps u g NoMemory h told fails = tt
 
 -- what an error is known to be says what it has to be

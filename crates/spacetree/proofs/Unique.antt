@@ -1,5 +1,5 @@
 -- A step and an evaluation lead to one grid and one field, so an evaluation that goes through is refused in none of its steps.
-use Rattle.std.proofs.Common.{zero, suc, ◌^◌, ◌<◌, ◌≤◌, length, arith, ◌≡◌, ℕ, Bool, true, false, refl, sym, ◌∙◌, subst, ◌⊎◌, inl, inr, Option, Some, None, IsSome, IsNone}
+use Rattle.std.proofs.Common.{zero, suc, ◌^◌, ◌<◌, ◌≤◌, length, arith, ◌≡◌, ℕ, Bool, true, false, refl, ap, sym, ◌∙◌, subst, ◌⊎◌, inl, inr, Option, Some, None, IsSome, IsNone}
 use Rattle.std.proofs.Math.Nat.{eq-or-lt_of_le}
 use Rattle.std.proofs.lemmas.Bool.{cases_lt, false≢true}
 use Rattle.std.specs.Cmp.{both_ways}
@@ -15,9 +15,8 @@ use Rattle.peano_keys.specs.Grid.{Spacetree, is_refined, is_leaf}
 use Rattle.peano_keys.specs.Field.{States}
 use Rattle.peano_keys.specs.Next.{IsNextGrid}
 use Rattle.solver_api.specs.Step.{UpdateRule, MarkRule, IsLeafOf, IsStep, Overflows, marks_of, new_state}
-use Rattle.spacetree.specs.declared.fault.EvalFault.TheVariants.{Overflow, Crowded}
 use Rattle.spacetree.specs.Counts.{cells_of}
-use Rattle.spacetree.specs.Evaluation.{Evaluates, FailsIn, IsServedStep, IsCrowded, Crowds, NeverRefused}
+use Rattle.spacetree.specs.Evaluation.{Evaluates, OverflowsIn, CrowdsIn, Crowds, IsServedStep}
 use Rattle.spacetree.proofs.CellMaps.{cells_total, exact_cells}
 
 below : (a b : ℕ) → (a < b) ⊎ ¬ (a < b)
@@ -108,34 +107,22 @@ some_and_none : (o : Option State) → IsSome o → IsNone o → ⊥
 some_and_none None h g = absurd (false≢true h)
 some_and_none (Some s) h g = absurd (false≢true (sym g))
 
--- the next grid by some marks has one number of cells, which is not more than 200,000 where the step is served
-not_crowded : (old : Spacetree) (marks : CellKey → Mark) (new : Spacetree) (cells : ℕ) → IsNextGrid old marks new → cells_of new ≤ 200000 → IsCrowded old marks cells → ⊥
-not_crowded old marks new cells next room h =
-    let same = one_grid old marks h.next.0 new h.next.1 next in
-    let count : cells_of new ≡ cells = subst (λ (t : Spacetree). cells_of t ≡ cells) same h.next.2 in
-    absurd (omega (arith, count, room, h.crowded))
-
--- an evaluation that goes through does not overflow in any of its steps
-never_overflows : (updated : UpdateRule) (marked : MarkRule) (t : Spacetree) (f : States) (n : ℕ) (u : Spacetree) (a : States) (s : ℕ) (c : CellKey) → Evaluates updated marked t f n u a → s ≤ n → FailsIn updated marked t f s (Overflow s c) → ⊥
+-- an evaluation that goes through overflows in none of its steps
+pub never_overflows : (updated : UpdateRule) (marked : MarkRule) (t : Spacetree) (f : States) (n : ℕ) (u : Spacetree) (a : States) (s : ℕ) (c : CellKey) → Evaluates updated marked t f n u a → s ≤ n → OverflowsIn updated marked t f s c → ⊥
 never_overflows updated marked t f n u a zero c told h fails = fails
 never_overflows updated marked t f n u a (suc s) c told h fails =
     let part = earlier updated marked t f n u a s (omega arith) told in
     let same = one_end updated marked t f s fails.0 fails.1 part.0 part.1 fails.2 part.4 in
-    let over = subst (λ (p : Both). Overflows updated p.0 p.1 c) same fails.3.1 in
+    let over = subst (λ (p : Both). Overflows updated p.0 p.1 c) same fails.3 in
     some_and_none (new_state updated part.0 part.1 c) (part.5.step.updates c over.leaf) over.failed
 
--- nor is it crowded in any of them
-never_crowded : (updated : UpdateRule) (marked : MarkRule) (t : Spacetree) (f : States) (n : ℕ) (u : Spacetree) (a : States) (s cells : ℕ) → Evaluates updated marked t f n u a → s ≤ n → FailsIn updated marked t f s (Crowded s cells) → ⊥
-never_crowded updated marked t f n u a zero cells told h fails = fails
-never_crowded updated marked t f n u a (suc s) cells told h fails =
+-- and it is crowded in none of them
+pub never_crowds : (updated : UpdateRule) (marked : MarkRule) (t : Spacetree) (f : States) (n : ℕ) (u : Spacetree) (a : States) (s cells : ℕ) → Evaluates updated marked t f n u a → s ≤ n → CrowdsIn updated marked t f s cells → ⊥
+never_crowds updated marked t f n u a zero cells told h fails = fails
+never_crowds updated marked t f n u a (suc s) cells told h fails =
     let part = earlier updated marked t f n u a s (omega arith) told in
     let same = one_end updated marked t f s fails.0 fails.1 part.0 part.1 fails.2 part.4 in
-    let crowds = subst (λ (p : Both). Crowds updated marked p.0 p.1 cells) same fails.3.1 in
-    not_crowded part.0 (marks_of marked part.0 part.1) part.2 cells part.5.step.grid part.5.room crowds.grid
-
--- so it is refused in none
-pub never_refused : (updated : UpdateRule) (marked : MarkRule) (t : Spacetree) (f : States) (n steps : ℕ) (u : Spacetree) (a : States) → Evaluates updated marked t f n u a → steps ≤ n → NeverRefused updated marked t f steps
-never_refused updated marked t f n steps u a told h = record {
-  overflow = λ s c le fails. never_overflows updated marked t f n u a s c told (omega (arith, le, h)) fails;
-  crowded = λ s cells le fails. never_crowded updated marked t f n u a s cells told (omega (arith, le, h)) fails;
-}
+    let crowd = subst (λ (p : Both). Crowds updated marked p.0 p.1 cells) same fails.3 in
+    let next = crowd.grid.next in
+    let grids : next.0 ≡ part.2 = one_grid part.0 (marks_of marked part.0 part.1) next.0 part.2 next.1 part.5.step.grid in
+    absurd (omega (arith, ap cells_of grids, next.2, part.5.room, crowd.grid.crowded))

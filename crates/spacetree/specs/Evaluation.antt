@@ -30,24 +30,32 @@ abbrev pub Evaluates : UpdateRule → MarkRule → Spacetree → States → ℕ 
 Evaluates updated marked t f zero t' f' = (t' ≡ t) × (f' ≡ f)
 Evaluates updated marked t f (suc n) t' f' = (u : Spacetree) × (g : States) × Evaluates updated marked t f n u g × IsServedStep updated marked u g t' f'
 
--- what is refused in one step, by its cause: the step's number and its least leaf that overflows, or, where none does, its number and how many cells its next grid has; or that memory was wanting
+-- the evaluation overflows in a step, at a leaf: the steps before it lead to a grid and a field whose least failing leaf that is
+abbrev pub OverflowsIn : UpdateRule → MarkRule → Spacetree → States → ℕ → CellKey → Type 0
+OverflowsIn updated marked t f zero c = ⊥
+OverflowsIn updated marked t f (suc n) c = (u : Spacetree) × (g : States) × Evaluates updated marked t f n u g × Overflows updated u g c
+
+-- the evaluation is crowded in a step, by so many cells: the steps before it lead to a grid and a field whose next grid is refused
+abbrev pub CrowdsIn : UpdateRule → MarkRule → Spacetree → States → ℕ → ℕ → Type 0
+CrowdsIn updated marked t f zero cells = ⊥
+CrowdsIn updated marked t f (suc n) cells = (u : Spacetree) × (g : States) × Evaluates updated marked t f n u g × Crowds updated marked u g cells
+
+-- none of so many steps overflows
+abbrev pub NeverOverflows : UpdateRule → MarkRule → Spacetree → States → ℕ → Type 0
+NeverOverflows updated marked t f steps = (s : ℕ) (c : CellKey) → s ≤ steps → ¬ OverflowsIn updated marked t f s c
+
+-- none of so many steps is crowded
+abbrev pub NeverCrowds : UpdateRule → MarkRule → Spacetree → States → ℕ → Type 0
+NeverCrowds updated marked t f steps = (s cells : ℕ) → s ≤ steps → ¬ CrowdsIn updated marked t f s cells
+
+-- what a step that was refused says: its number and the leaf at which it overflows, or its number and the size of the next grid, or that memory was wanting
 abbrev pub StepFails : UpdateRule → MarkRule → Spacetree → States → ℕ → EvalFault → Type 0
 StepFails updated marked t f step (Overflow s c) = (s ≡ step) × Overflows updated t f c
 StepFails updated marked t f step (Crowded s cells) = (s ≡ step) × Crowds updated marked t f cells
 StepFails updated marked t f step NoMemory = Unit {0}
 
--- the steps before step `step` lead to a grid and a field from which that step is refused
-abbrev pub FailsIn : UpdateRule → MarkRule → Spacetree → States → ℕ → EvalFault → Type 0
-FailsIn updated marked t f zero fault = ⊥
-FailsIn updated marked t f (suc n) fault = (u : Spacetree) × (g : States) × Evaluates updated marked t f n u g × StepFails updated marked u g (suc n) fault
-
--- how an evaluation of so many steps ends early: in the step that is named, or for want of memory
+-- what an evaluation of so many steps that ended early says: the step and the leaf in which it overflows, or the step and the size of the grid by which it is crowded, or that memory was wanting
 abbrev pub EndsIn : UpdateRule → MarkRule → Spacetree → States → ℕ → EvalFault → Type 0
-EndsIn updated marked t f steps (Overflow step c) = (step ≤ steps) × FailsIn updated marked t f step (Overflow step c)
-EndsIn updated marked t f steps (Crowded step cells) = (step ≤ steps) × FailsIn updated marked t f step (Crowded step cells)
+EndsIn updated marked t f steps (Overflow step c) = (step ≤ steps) × OverflowsIn updated marked t f step c
+EndsIn updated marked t f steps (Crowded step cells) = (step ≤ steps) × CrowdsIn updated marked t f step cells
 EndsIn updated marked t f steps NoMemory = Unit {0}
-
--- none of so many steps is refused: none overflows at any leaf, and none is crowded
-pub record NeverRefused (updated : UpdateRule) (marked : MarkRule) (t : Spacetree) (f : States) (steps : ℕ) : Type 0 where
-  pub overflow : (s : ℕ) (c : CellKey) → s ≤ steps → ¬ FailsIn updated marked t f s (Overflow s c)
-  pub crowded : (s cells : ℕ) → s ≤ steps → ¬ FailsIn updated marked t f s (Crowded s cells)

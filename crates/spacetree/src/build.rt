@@ -8,14 +8,12 @@ ghost use Rattle.spacetree.specs.Opening.{OpensRefined};
 ghost use Rattle.spacetree.specs.Build.{IsZone, IsShape, HasOpened, HasAllOpened, HasOpenedUnder, StandsFor, BuildFails, overlaps, zone_refines};
 
 use crate::cells::CellSet;
+use crate::counts::MOST_CELLS;
 use crate::digits::{fan, nth_digits};
 use crate::fault::BuildFault;
 use crate::shape::{Shape, Zone};
 use peano_keys::{CellKey, Dim, child, pow3};
 use std::alloc::{AllocError, Global};
-
-// How many cells a grid has at most.
-const MOST_CELLS: u64 = 200_000;
 
 // Whether the inside of a cell meets an interval of cells of another level, on one axis.
 #[tactic(auto, using(crate::proofs::Boxes::scaled_fits, peano_keys::proofs::Powers::pow3_by_12))]

@@ -35,7 +35,7 @@ fn is_zone(dim: Dim, depth: u32, zone: &Zone) -> bool
         && third
 }
 
-fn are_zones(dim: Dim, depth: u32, zones: &[Zone]) -> bool
+pub(crate) fn are_zones(dim: Dim, depth: u32, zones: &[Zone]) -> bool
     requires { depth ≤ 12 }
     ensures { IsTrue result → All (IsZone dim depth) zones.now }
 {
@@ -82,7 +82,7 @@ fn cube(level: u32, from: u32, to: u32, until: u32) -> Zone {
 }
 
 // A rectangle of the plane's cells of one level.
-fn rectangle(level: u32, from: [u32; 2], to: [u32; 2], until: u32) -> Zone {
+pub(crate) fn rectangle(level: u32, from: [u32; 2], to: [u32; 2], until: u32) -> Zone {
     Zone {
         level,
         from: [from[0], from[1], 0],

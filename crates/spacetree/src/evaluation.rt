@@ -4,7 +4,7 @@ ghost use Rattle.peano_keys.specs.Grid.{IsGrid};
 ghost use Rattle.spacetree.specs.Counts.{cells_of};
 ghost use Rattle.spacetree.specs.Leaves.{ListsLeaves};
 ghost use Rattle.spacetree.specs.Fields.{IsFieldOn};
-ghost use Rattle.spacetree.specs.Evaluation.{Evaluates, EndsIn, IsServedStep, NeverRefused, StepFails};
+ghost use Rattle.spacetree.specs.Evaluation.{Evaluates, EndsIn, IsServedStep, NeverCrowds, NeverOverflows, StepFails};
 
 use crate::fault::EvalFault;
 use crate::field::Field;
@@ -89,8 +89,9 @@ pub fn evaluate<S: Solver>(
     ensures stays { S.adapting solver.now ≡ false → IfOk result (λ after. after.0 ≡ grid.now) }
     ensures err { IfErr result (EndsIn (S.updated solver.now) (S.marked solver.now) grid.now field.now steps) }
 
-    // Where it goes through, no step is refused for any cause.
-    ensures through { OnOk result (NeverRefused (S.updated solver.now) (S.marked solver.now) grid.now field.now steps) }
+    // Where it goes through, no step overflows at any leaf, and none is crowded.
+    ensures through { OnOk result (NeverOverflows (S.updated solver.now) (S.marked solver.now) grid.now field.now steps) }
+    ensures room { OnOk result (NeverCrowds (S.updated solver.now) (S.marked solver.now) grid.now field.now steps) }
 {
     let leaves = grid.leaves(alloc)?;
     let mut states = copied(alloc, grid, field, leaves.as_slice(), solver.parts())?;

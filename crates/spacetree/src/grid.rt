@@ -12,6 +12,7 @@ ghost use Rattle.spacetree.specs.Opening.{Opens};
 
 use crate::build::refined_cells;
 use crate::cells::CellSet;
+use crate::counts::cells_with;
 use crate::digits::{fan, nth_digits};
 use crate::fault::BuildFault;
 use crate::shape::Shape;
@@ -100,11 +101,7 @@ impl Grid {
         ensures value { result ≡ cells_of self.now }
         ensures limit { result ≤ 200000 }
     {
-        let children = match self.dim {
-            Dim::Two => 9,
-            Dim::Three => 27,
-        };
-        1 + children * self.refined.len()
+        cells_with(self.dim, &self.refined)
     }
 
     /// How many leaves there are.

@@ -5,6 +5,7 @@ mod build;
 #[cfg(test)]
 mod build_tests;
 mod cells;
+mod counts;
 mod digits;
 mod evaluation;
 mod fault;
@@ -17,6 +18,8 @@ mod opening;
 mod row;
 mod shape;
 mod side;
+#[cfg(test)]
+mod step_tests;
 #[cfg(test)]
 mod tests;
 mod update;

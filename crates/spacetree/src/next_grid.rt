@@ -6,19 +6,17 @@ ghost use Rattle.peano_keys.specs.declared.side.Mark.{Mark};
 ghost use Rattle.peano_keys.specs.Cell.{IsCell};
 ghost use Rattle.peano_keys.specs.Grid.{IsGrid};
 ghost use Rattle.peano_keys.specs.Next.{IsNextGrid};
-ghost use Rattle.spacetree.specs.Counts.{cells_for, cells_of};
+ghost use Rattle.spacetree.specs.Counts.{cells_of};
 ghost use Rattle.spacetree.specs.Marked.{AreMarked, HasChildren, IsAddedWhere, NextFails};
 
 use crate::cells::CellSet;
+use crate::counts::{MOST_CELLS, cells_with};
 use crate::digits::{fan, nth_digits};
 use crate::fault::EvalFault;
 use crate::grid::Grid;
 use crate::update::Update;
 use peano_keys::{CellKey, Dim, child};
 use std::alloc::{AllocError, Global};
-
-// How many cells a grid has at most.
-const MOST_CELLS: u64 = 200_000;
 
 // Whether a set has all children of a cell.
 fn has_children(dim: Dim, cells: &CellSet, key: CellKey) -> bool
@@ -64,14 +62,6 @@ fn next_refined(
         keep(&mut refined, dim, coarsen, *parent)?;
     }
     Ok(refined)
-}
-
-// How many cells a grid has with some refined ones.
-fn cells_with(dim: Dim, refined: &CellSet) -> u64
-    requires { set.len refined.now ≤ 2 ^ 59 + 200000 }
-    ensures { result ≡ cells_for dim (set.len refined.now) }
-{
-    1 + u64::from(fan(dim)) * refined.len()
 }
 
 // The next grid by the marks of all leaves, refused where it has too many cells.

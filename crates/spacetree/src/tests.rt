@@ -25,7 +25,7 @@ fn uniform(alloc: Global, level: u32) -> Result<Grid, BuildFault>
     Grid::build(alloc, &shape)
 }
 
-fn cell(level: u32, first: u32, second: u32) -> CellKey {
+pub(crate) fn cell(level: u32, first: u32, second: u32) -> CellKey {
     CellKey {
         level,
         x: [first, second, 0],
@@ -34,10 +34,15 @@ fn cell(level: u32, first: u32, second: u32) -> CellKey {
 
 // A square of cells of a level that is filled with one value.
 #[derive(Clone, Copy)]
-struct Square(u32, u32, u32, i64);
+pub(crate) struct Square(
+    pub(crate) u32,
+    pub(crate) u32,
+    pub(crate) u32,
+    pub(crate) i64,
+);
 
 // The fill of a square, where it lies in the domain.
-fn fill_of(square: Square) -> Option<Fill>
+pub(crate) fn fill_of(square: Square) -> Option<Fill>
     ensures { IfSome result (IsFill 1) }
 {
     let Square(level, from, to, value) = square;

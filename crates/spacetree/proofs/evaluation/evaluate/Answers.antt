@@ -1,10 +1,10 @@
-use Rattle.std.proofs.Common.{◌∙◌, sym, subst, ◌≤◌, arith}
+use Rattle.std.proofs.Common.{arith, ◌≤◌, ◌∙◌, sym, subst}
 use Rattle.peano_keys.specs.Grid.{Spacetree, IsGrid}
 use Rattle.peano_keys.specs.Field.{States}
 use Rattle.spacetree.specs.Fields.{IsFieldOn}
 use Rattle.spacetree.specs.Evaluation.{EndsIn}
-use Rattle.spacetree.proofs.Unique.{never_refused}
 use Rattle.spacetree.proofs.Steps.{evaluates_more, ends_in, err_and}
+use Rattle.spacetree.proofs.Unique.{never_overflows, never_crowds}
 use Rattle.spacetree.proofs.evaluation.evaluate.Goals as goal
 
 pub loop-step-init : goal.loop-step-init
@@ -40,5 +40,11 @@ loop-step-preserved g c =
     }
 
 pub returns-clause-through : goal.returns-clause-through
-returns-clause-through g c =
-    never_refused (g.S.Solver.updated c.args.solver.now) (g.S.Solver.marked c.args.solver.now) c.args.grid.now c.args.field.now c.loop-step.step c.args.steps c.loop-step.tree c.loop-step.states c.loop-step.invariant.told c.loop-step-test.false
+returns-clause-through g c s key h =
+    let reached : s ≤ c.loop-step.step = omega (arith, h, c.loop-step-test.false) in
+    never_overflows (g.S.Solver.updated c.args.solver.now) (g.S.Solver.marked c.args.solver.now) c.args.grid.now c.args.field.now c.loop-step.step c.loop-step.tree c.loop-step.states s key c.loop-step.invariant.told reached
+
+pub returns-clause-room : goal.returns-clause-room
+returns-clause-room g c s cells h =
+    let reached : s ≤ c.loop-step.step = omega (arith, h, c.loop-step-test.false) in
+    never_crowds (g.S.Solver.updated c.args.solver.now) (g.S.Solver.marked c.args.solver.now) c.args.grid.now c.args.field.now c.loop-step.step c.loop-step.tree c.loop-step.states s cells c.loop-step.invariant.told reached

@@ -7,12 +7,9 @@ use Rattle.peano_keys.specs.Cell.{IsCell}
 use Rattle.peano_keys.specs.Field.{state_at}
 use Rattle.solver_api.specs.Step.{source_of}
 use Rattle.spacetree.specs.Leaves.{is_among}
-use Rattle.spacetree.proofs.CellSets.{among_at}
+use Rattle.spacetree.proofs.CellSets.{leaf_at, nowhere}
 use Rattle.spacetree.proofs.Givens.{Gives, gives_none, gives_more, given_at_leaf, keys_given}
 use Rattle.spacetree.proofs.next_field.next_field.Goals as goal
-
-abbrev none : CellKey
-none = record { level = 0; x = [] }
 
 pub loop-leaf-init : goal.loop-leaf-init
 loop-leaf-init c = gives_none (λ q. Some (state_at c.args.states.now (source_of c.args.old.now q))) c.empty-after.result c.empty-after.ensures
@@ -20,16 +17,16 @@ loop-leaf-init c = gives_none (λ q. Some (state_at c.args.states.now (source_of
 pub inherited-requires-clause-cell : goal.inherited-requires-clause-cell
 inherited-requires-clause-cell c =
     let cells = c.as_slice-leaf-items.result.now in
-    let k : CellKey = get_or cells c.loop-leaf.leaf-index none in
+    let k : CellKey = get_or cells c.loop-leaf.leaf-index nowhere in
     subst (λ (d : Dim). IsCell d k) c.requires.dim
-    ((c.in_ok-leaves.ensures.members k).0 (ap (λ l. is_among l k) (sym c.as_slice-leaf-items.ensures.value) ∙ among_at cells c.loop-leaf.leaf-index none c.loop-leaf-test.true)).cell
+    (leaf_at c.args.next.now c.in_ok-leaves.leaves.items cells c.loop-leaf.leaf-index c.in_ok-leaves.ensures c.as_slice-leaf-items.ensures.value c.loop-leaf-test.true).cell
 
 pub loop-leaf-preserved : goal.loop-leaf-preserved
 loop-leaf-preserved c =
     let cells = c.as_slice-leaf-items.result.now in
     let given : CellKey → Option State = λ q. Some (state_at c.args.states.now (source_of c.args.old.now q)) in
     subst (Gives given (take (c.loop-leaf.leaf-index + 1) cells)) (sym c.in_ok-set.ensures.ok)
-    (gives_more given cells c.loop-leaf.leaf-index none c.loop-leaf.after c.inherited.result c.loop-leaf-test.true c.loop-leaf.invariant (ap Some (sym c.inherited.ensures)))
+    (gives_more given cells c.loop-leaf.leaf-index nowhere c.loop-leaf.after c.inherited.result c.loop-leaf-test.true c.loop-leaf.invariant (ap Some (sym c.inherited.ensures)))
 
 pub returns : goal.returns
 returns c =

@@ -1,11 +1,10 @@
 use Rattle.std.proofs.Common.{arith, ◌≡◌, ◌≤◌, ap, ◌∙◌, inl, inr, refl, sym, true}
-use Rattle.std.proofs.Math.Nat.{eq-or-lt_of_le}
 use Rattle.std.proofs.lemmas.Bool.{false≢true}
 use Rattle.std.specs.FinSet as set
 use Rattle.peano_keys.specs.Cell.{child_of}
 use Rattle.spacetree.specs.Digits.{number_in}
-use Rattle.spacetree.proofs.Children.{child_by_number, parent_of_child, third_digit, child_cell}
-use Rattle.spacetree.proofs.NextGrids.{number_below}
+use Rattle.spacetree.proofs.CellSets.{below_or_at}
+use Rattle.spacetree.proofs.Children.{child_by_number, child_cell, number_bound, parent_of_child, third_digit}
 use Rattle.spacetree.proofs.next_grid.has_children.Goals as goal
 
 pub returns-then-not-contains : goal.returns-then-not-contains
@@ -18,12 +17,11 @@ returns-then-not-contains c = (
 
 pub loop-n-preserved : goal.loop-n-preserved
 loop-n-preserved c q cell pos up lt =
-    let le : number_in c.args.dim q ≤ c.loop-n.n = omega arith in
-    elim (eq-or-lt_of_le le) [
-      | inl e ↦
+    elim (below_or_at (number_in c.args.dim q) c.loop-n.n lt) [
+      | inl l ↦ c.loop-n.invariant q cell pos up l
+      | inr e ↦
           let same : q ≡ c.child.result = child_by_number c.args.dim q c.args.key c.loop-n.n cell pos up e ∙ ap (child_of c.args.key) (sym c.nth_digits.ensures.value) ∙ sym c.child.ensures.value in
           ap (set.contains c.args.cells.now) same ∙ sym c.contains.ensures ∙ c.if-not-contains.false
-      | inr l ↦ c.loop-n.invariant q cell pos up l
     ]
 
 pub returns : goal.returns
@@ -32,6 +30,6 @@ returns c = (
       let child = child_of c.args.key k in
       c.loop-n.invariant child (child_cell c.args.dim c.args.key k c.requires.cell c.requires.room digits) (omega arith)
       (parent_of_child c.args.key k c.requires.cell.shape digits.first digits.second (third_digit c.args.dim k digits))
-      (omega (arith, number_below c.args.dim child, c.fan-n-end.ensures, c.loop-n-test.false)),
+      (omega (arith, number_bound c.args.dim child, c.fan-n-end.ensures, c.loop-n-test.false)),
   λ _. refl,
 )

@@ -7,13 +7,10 @@ use Rattle.peano_keys.specs.Cell.{IsCell}
 use Rattle.peano_keys.specs.Grid.{Cells, is_refined}
 use Rattle.spacetree.specs.Leaves.{is_among}
 use Rattle.spacetree.specs.Marked.{HasChildren, IsAddedWhere}
-use Rattle.spacetree.proofs.CellSets.{among_at}
+use Rattle.spacetree.proofs.CellSets.{listed_at, nowhere}
 use Rattle.spacetree.proofs.NextGrids.{next_from_sets}
 use Rattle.spacetree.proofs.Sifts.{Sifts, sifts_none, sifts_more, len_by_added, listed_count}
 use Rattle.spacetree.proofs.next_grid.next_refined.Goals as goal
-
-abbrev none : CellKey
-none = record { level = 0; x = [] }
 
 pub loop-parent-init : goal.loop-parent-init
 loop-parent-init c = record {
@@ -24,27 +21,27 @@ loop-parent-init c = record {
 pub keep-requires-clause-cell : goal.keep-requires-clause-cell
 keep-requires-clause-cell c =
     let cells = c.as_slice-parent-items.result.now in
-    let p : CellKey = get_or cells c.loop-parent.parent-index none in
-    let refined : is_refined c.args.grid.now p ≡ true = sym (c.in_ok-parents.ensures.members p) ∙ ap (λ l. is_among l p) (sym c.as_slice-parent-items.ensures.value) ∙ among_at cells c.loop-parent.parent-index none c.loop-parent-test.true in
-    subst (λ (d : Dim). IsCell d p) (sym c.dim-dim.ensures) (c.requires.cells p refined)
+    let p : CellKey = get_or cells c.loop-parent.parent-index nowhere in
+    subst (λ (d : Dim). IsCell d p) (sym c.dim-dim.ensures)
+    (c.requires.cells p (listed_at c.args.grid.now.refined c.in_ok-parents.parents.items cells c.loop-parent.parent-index c.in_ok-parents.ensures c.as_slice-parent-items.ensures.value c.loop-parent-test.true))
 
 pub keep-requires-clause-room : goal.keep-requires-clause-room
 keep-requires-clause-room c =
     let cells = c.as_slice-parent-items.result.now in
-    let p : CellKey = get_or cells c.loop-parent.parent-index none in
-    c.requires.levels p (sym (c.in_ok-parents.ensures.members p) ∙ ap (λ l. is_among l p) (sym c.as_slice-parent-items.ensures.value) ∙ among_at cells c.loop-parent.parent-index none c.loop-parent-test.true)
+    c.requires.levels (get_or cells c.loop-parent.parent-index nowhere)
+    (listed_at c.args.grid.now.refined c.in_ok-parents.parents.items cells c.loop-parent.parent-index c.in_ok-parents.ensures c.as_slice-parent-items.ensures.value c.loop-parent-test.true)
 
 pub loop-parent-preserved : goal.loop-parent-preserved
 loop-parent-preserved c =
     let cells = c.as_slice-parent-items.result.now in
     let i = c.loop-parent.parent-index in
-    let p : CellKey = get_or cells i none in
+    let p : CellKey = get_or cells i nowhere in
     let old : Cells = c.loop-parent.refined in
     let new : Cells = c.keep.new.refined in
     let coarsen : Cells = c.args.coarsen.now in
     let added : IsAddedWhere (HasChildren c.args.grid.now.dim coarsen p → ⊥) p old new = subst (λ (d : Dim). IsAddedWhere (HasChildren d coarsen p → ⊥) p old new) c.dim-dim.ensures c.in_ok-keep.ensures in
     record {
-      sifts = sifts_more (λ q. HasChildren c.args.grid.now.dim coarsen q → ⊥) cells i none c.args.refine.now old new c.loop-parent-test.true c.loop-parent.invariant.sifts added;
+      sifts = sifts_more (λ q. HasChildren c.args.grid.now.dim coarsen q → ⊥) cells i nowhere c.args.refine.now old new c.loop-parent-test.true c.loop-parent.invariant.sifts added;
       count = omega (arith, len_by_added (HasChildren c.args.grid.now.dim coarsen p → ⊥) p old new added, c.loop-parent.invariant.count);
     }
 

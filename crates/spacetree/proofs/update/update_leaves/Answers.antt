@@ -11,14 +11,11 @@ use Rattle.peano_keys.specs.Cell.{key_cmp}
 use Rattle.solver_api.specs.Step.{marks_of, new_state}
 use Rattle.spacetree.specs.Leaves.{is_among}
 use Rattle.spacetree.specs.Marked.{IsAddedWhere}
-use Rattle.spacetree.proofs.CellSets.{among_at, among_more}
+use Rattle.spacetree.proofs.CellSets.{among_more, leaf_at, nowhere}
 use Rattle.spacetree.proofs.Givens.{Gives, Counts, gives_none, counts_none, gives_more, counts_more, field_on, given_at_leaf}
 use Rattle.spacetree.proofs.Sifts.{Sifts, sifts_none, sifts_more, len_by_added, marked_by}
 use Rattle.spacetree.proofs.Steps.{fails_at}
 use Rattle.spacetree.proofs.update.update_leaves.Goals as goal
-
-abbrev none : CellKey
-none = record { level = 0; x = [] }
 
 pub loop-leaf-init : goal.loop-leaf-init
 loop-leaf-init g c =
@@ -35,18 +32,17 @@ loop-leaf-init g c =
 
 pub update_leaf-told-requires-clause-leaf : goal.update_leaf-told-requires-clause-leaf
 update_leaf-told-requires-clause-leaf g c κs within =
-    let cells = c.args.leaves.now in
-    (c.requires.leaves.members (get_or cells c.loop-leaf.leaf-index none)).0 (among_at cells c.loop-leaf.leaf-index none c.loop-leaf-test.true)
+    leaf_at c.args.grid.now c.args.leaves.now c.args.leaves.now c.loop-leaf.leaf-index c.requires.leaves refl c.loop-leaf-test.true
 
 pub returns-in-None-clause-err : goal.returns-in-None-clause-err
 returns-in-None-clause-err g c =
-    (refl, fails_at (g.S.Solver.updated c.args.solver.now) c.args.grid.now c.args.field.now c.args.leaves.now c.loop-leaf.leaf-index none c.requires.leaves c.loop-leaf-test.true c.loop-leaf.invariant.made (sym c.in-None.is ∙ c.update_leaf-told.ensures.state))
+    (refl, fails_at (g.S.Solver.updated c.args.solver.now) c.args.grid.now c.args.field.now c.args.leaves.now c.loop-leaf.leaf-index nowhere c.requires.leaves c.loop-leaf-test.true c.loop-leaf.invariant.made (sym c.in-None.is ∙ c.update_leaf-told.ensures.state))
 
 pub loop-leaf-preserved : goal.loop-leaf-preserved
 loop-leaf-preserved g c =
     let cells = c.args.leaves.now in
     let i = c.loop-leaf.leaf-index in
-    let k : CellKey = get_or cells i none in
+    let k : CellKey = get_or cells i nowhere in
     let parts = g.S.Solver.parts_of c.args.solver.now in
     let given : CellKey → Option State = new_state (g.S.Solver.updated c.args.solver.now) c.args.grid.now c.args.field.now in
     let marks : CellKey → Mark = marks_of (g.S.Solver.marked c.args.solver.now) c.args.grid.now c.args.field.now in
@@ -59,14 +55,14 @@ loop-leaf-preserved g c =
     let refine : IsAddedWhere (marks k ≡ Refine) k old.refine new.refine = subst (λ (m : Mark). IsAddedWhere (m ≡ Refine) k old.refine new.refine) told.mark after.refine in
     let coarsen : IsAddedWhere (marks k ≡ Coarsen) k old.coarsen new.coarsen = subst (λ (m : Mark). IsAddedWhere (m ≡ Coarsen) k old.coarsen new.coarsen) told.mark after.coarsen in
     record {
-      gives = subst (Gives given (take (i + 1) cells)) (sym after.states) (gives_more given cells i none old.states c.in-Some.state c.loop-leaf-test.true c.loop-leaf.invariant.gives value);
+      gives = subst (Gives given (take (i + 1) cells)) (sym after.states) (gives_more given cells i nowhere old.states c.in-Some.state c.loop-leaf-test.true c.loop-leaf.invariant.gives value);
       counts = subst (Counts parts) (sym after.states) (counts_more parts old.states k c.in-Some.state c.loop-leaf.invariant.counts count);
-      made = λ q h. elim (among_more cells i none q c.loop-leaf-test.true h) [
+      made = λ q h. elim (among_more cells i nowhere q c.loop-leaf-test.true h) [
         | inl e ↦ c.loop-leaf.invariant.made q e
         | inr e ↦ subst (λ (o : Option State). IsSome o) (sym (ap given e ∙ value)) refl
       ];
-      refine = sifts_more (λ q. marks q ≡ Refine) cells i none set.empty old.refine new.refine c.loop-leaf-test.true c.loop-leaf.invariant.refine refine;
-      coarsen = sifts_more (λ q. marks q ≡ Coarsen) cells i none set.empty old.coarsen new.coarsen c.loop-leaf-test.true c.loop-leaf.invariant.coarsen coarsen;
+      refine = sifts_more (λ q. marks q ≡ Refine) cells i nowhere set.empty old.refine new.refine c.loop-leaf-test.true c.loop-leaf.invariant.refine refine;
+      coarsen = sifts_more (λ q. marks q ≡ Coarsen) cells i nowhere set.empty old.coarsen new.coarsen c.loop-leaf-test.true c.loop-leaf.invariant.coarsen coarsen;
       few = omega (arith, len_by_added (marks k ≡ Refine) k old.refine new.refine refine, c.loop-leaf.invariant.few);
     }
 
