@@ -3,9 +3,10 @@
 #![tactic(auto)]
 
 mod order;
+mod passing;
 mod range;
 mod run;
 
 pub use order::{Direction, centre, compare, first_child, interval, next_child};
 pub use range::Range;
-pub use run::lane_of;
+pub use run::{after, before, lane_of};
