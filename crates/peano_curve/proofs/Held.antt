@@ -1,17 +1,15 @@
 -- Held cells of a run: those between two held ones are held, so the next cell of all round a vertex decides.
-use Rattle.std.proofs.Common.{◌≡◌, ◌⊎◌, inl, inr, ℕ, suc, ◌+◌, ◌-◌, ◌*◌, ◌^◌, ◌<◌, ◌≤◌, arith, ⊎_elim, refl, sym, ap, subst, ◌∙◌}
+use Rattle.std.proofs.Common.{◌≡◌, ◌⊎◌, inl, inr, ℕ, suc, ◌+◌, ◌-◌, ◌*◌, ◌<◌, ◌≤◌, arith, ⊎_elim, sym, ap, subst, ◌∙◌}
 use Rattle.std.proofs.Math.Nat.{mul-le-mul_right}
 use Rattle.std.proofs.lemmas.Bool.{cases_eq}
 use Rattle.peano_keys.specs.declared.cell.CellKey.{CellKey}
 use Rattle.peano_keys.specs.declared.vertex.VertexKey.{VertexKey}
 use Rattle.peano_keys.specs.declared.dim.Dim.{Dim}
-use Rattle.peano_keys.specs.Cell.{IsCell}
-use Rattle.peano_keys.specs.Vertex.{Touches}
 use Rattle.peano_curve.specs.declared.order.Direction.{Direction}
 use Rattle.peano_curve.specs.declared.order.Direction.TheVariants.{Forward, Backward}
 use Rattle.peano_curve.specs.declared.range.Range.{Range}
-use Rattle.peano_curve.specs.Order.{children, rank_of, width_of, interval_of}
-use Rattle.peano_curve.specs.Run.{Holds, Meets, HoldsCell, Later, CellLater, InRun, Follows, IsLast}
+use Rattle.peano_curve.specs.Order.{rank_of, width_of, interval_of}
+use Rattle.peano_curve.specs.Run.{Meets, HoldsCell, Later, CellLater, InRun, Follows, IsLast}
 use Rattle.peano_curve.specs.Passing.{UpTo, NoneLaterRound, NextRound}
 use Rattle.peano_curve.proofs.Ranks.{width_positive}
 use Rattle.peano_curve.proofs.Splits.{later_up_to}
@@ -32,11 +30,11 @@ module _ (dim : Dim) (depth : ℕ) (r : Range) where
   at_level : (l : ℕ) (c : CellKey) → c.level ≡ l → HoldsCell dim depth r c → Meets (record { lo = rank_of dim c * width_of dim l depth; hi = rank_of dim c * width_of dim l depth + width_of dim l depth }) r
   at_level l c e h = subst (λ l. Meets (record { lo = rank_of dim c * width_of dim l depth; hi = rank_of dim c * width_of dim l depth + width_of dim l depth }) r) e h
 
-  held_between : (dir : Direction) (c s q : CellKey) → c.level ≡ s.level → q.level ≡ s.level → CellLater dir dim c s → CellLater dir dim s q → HoldsCell dim depth r c → HoldsCell dim depth r q → HoldsCell dim depth r s
+  pub held_between : (dir : Direction) (c s q : CellKey) → c.level ≡ s.level → q.level ≡ s.level → CellLater dir dim c s → CellLater dir dim s q → HoldsCell dim depth r c → HoldsCell dim depth r q → HoldsCell dim depth r s
   held_between Forward c s q ec eq first second hc hq = between (width_of dim s.level depth) (rank_of dim c) (rank_of dim s) (rank_of dim q) r (width_positive dim (depth - s.level)) first second (at_level s.level c ec hc) (at_level s.level q eq hq)
   held_between Backward c s q ec eq first second hc hq = between (width_of dim s.level depth) (rank_of dim q) (rank_of dim s) (rank_of dim c) r (width_positive dim (depth - s.level)) second first (at_level s.level q eq hq) (at_level s.level c ec hc)
 
-  later_of : (dir : Direction) (a b : ℕ) → UpTo dir a b → (a ≡ b) ⊎ Later dir a b
+  pub later_of : (dir : Direction) (a b : ℕ) → UpTo dir a b → (a ≡ b) ⊎ Later dir a b
   later_of Forward a b u = ⊎_elim inl (λ n. inr (omega arith)) (cases_eq a b)
   later_of Backward a b u = ⊎_elim inl (λ n. inr (omega arith)) (cases_eq a b)
 
@@ -53,9 +51,9 @@ module _ (dim : Dim) (depth : ℕ) (r : Range) where
         ⊎_elim
         (λ u. later_up_to dir (rank_of dim c) (rank_of dim q) later u)
         (λ u. ⊎_elim
-            (λ e. free (subst (λ i. Meets i r) (interval_by_rank dim depth q n level_q (sym e)) in_run.held))
-            (λ l. free (held_between dir c n q (member.touches.level ∙ sym level_n) level_q next.later l member.held in_run.held))
-            (later_of dir (rank_of dim n) (rank_of dim q) u))
+        (λ e. free (subst (λ i. Meets i r) (interval_by_rank dim depth q n level_q (sym e)) in_run.held))
+        (λ l. free (held_between dir c n q (member.touches.level ∙ sym level_n) level_q next.later l member.held in_run.held))
+        (later_of dir (rank_of dim n) (rank_of dim q) u))
         (next.nearest q in_run.cell in_run.touches)
 
     -- it is held: then it follows

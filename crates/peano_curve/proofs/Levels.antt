@@ -1,15 +1,14 @@
 -- A level of the curve as splits along one axis after another: the next place round a vertex from that of the parents.
-use Rattle.std.proofs.Common.{◌≡◌, ◌≢◌, ◌⊎◌, inl, inr, ℕ, zero, suc, ◌+◌, ◌*◌, ◌/◌, ◌%◌, ◌-◌, ◌^◌, ◌<◌, ◌≤◌, arith, ⊎_elim, refl, sym, ap, subst, ◌∙◌, sub-one, Option, Some, None}
-use Rattle.std.proofs.lemmas.Bool.Decides.{nat_tests}
+use Rattle.std.proofs.Common.{◌≡◌, inl, inr, ℕ, zero, suc, ◌+◌, ◌/◌, ◌%◌, ◌^◌, ◌<◌, arith, ⊎_elim, refl, sym, ap, subst, ◌∙◌, Option, Some, None}
 use Rattle.std.proofs.Math.Nat.{pow-zero, pow-suc}
 use Rattle.peano_keys.specs.declared.dim.Dim.{Dim}
 use Rattle.peano_keys.specs.declared.dim.Dim.TheVariants.{Two, Three}
 use Rattle.peano_keys.specs.Dim.{third_extent}
 use Rattle.peano_curve.specs.declared.order.Direction.{Direction}
-use Rattle.peano_curve.specs.Order.{turned, place_of, rank_from}
+use Rattle.peano_curve.specs.Order.{rank_from}
 use Rattle.peano_curve.specs.Run.{Later}
-use Rattle.peano_curve.specs.Passing.{UpTo, Among, IsBeside, NoneLater, NextIs, TurnsOn, Crosses}
-use Rattle.peano_curve.proofs.Splits.{split, split_apart, TellsApart, Quiet, quiet, turn_here, turn_above, turned_same, later_up_to, up_to_refl}
+use Rattle.peano_curve.specs.Passing.{UpTo, Among, IsBeside, NextIs, TurnsOn, Crosses}
+use Rattle.peano_curve.proofs.Splits.{split, split_apart, TellsApart, Quiet, turn_here, turn_above, turned_same}
 
 -- a place of a level
 abbrev pub Within : Dim → ℕ → ℕ → ℕ → ℕ → Type 0
@@ -54,7 +53,7 @@ rank_twice l a b c flat =
     let up : rank_from Two l (a / 3) (b / 3) (c / 3) ≡ rank_from Two l (a / 3) (b / 3) c = ap (rank_from Two l (a / 3) (b / 3)) (omega arith) in
     omega arith
 
-within_up : (dim : Dim) (l a b c : ℕ) → Within dim (suc l) a b c → Within dim l (a / 3) (b / 3) (c / 3)
+pub within_up : (dim : Dim) (l a b c : ℕ) → Within dim (suc l) a b c → Within dim l (a / 3) (b / 3) (c / 3)
 within_up dim l a b c h = (omega (arith, h.0, pow-suc 3 l), omega (arith, h.1, pow-suc 3 l), third dim h.2)
   where
     third : (dim : Dim) → c < third_extent dim (3 ^ suc l) → c / 3 < third_extent dim (3 ^ l)

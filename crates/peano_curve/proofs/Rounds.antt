@@ -1,21 +1,11 @@
 -- The next cell round a vertex, in keys.
-use Rattle.std.proofs.Common.{◌≡◌, ◌≢◌, ◌⊎◌, inl, inr, ℕ, zero, suc, ◌+◌, ◌-◌, ◌/◌, ◌^◌, ◌<◌, ◌≤◌, arith, ⊎_elim, refl, sym, ap, subst, ◌∙◌, length, Bool, true, false, Option, Some, None}
-use Rattle.std.specs.Prelude.{slice_set, slice_index}
-use Rattle.std.proofs.Math.Nat.{pow-zero}
-use Rattle.std.proofs.lemmas.Bool.{cases_lt}
+use Rattle.std.proofs.Common.{◌≡◌, ℕ, suc, ◌+◌, ◌-◌, ◌/◌, ◌<◌, arith, sym, ap, subst, ◌∙◌, Option, Some}
 use Rattle.peano_keys.specs.declared.cell.CellKey.{CellKey}
-use Rattle.peano_keys.specs.declared.vertex.VertexKey.{VertexKey}
 use Rattle.peano_keys.specs.declared.dim.Dim.{Dim}
-use Rattle.peano_keys.specs.declared.dim.Dim.TheVariants.{Two, Three}
-use Rattle.peano_keys.specs.Dim.{axes, third_extent}
-use Rattle.peano_keys.specs.Cell.{IsCell, at, triple, parent_of, neighbour_of}
-use Rattle.peano_keys.specs.Vertex.{Touches, plane}
-use Rattle.peano_keys.specs.Field.{face_on}
-use Rattle.peano_keys.proofs.Faces.{Next, with_x, placed, next_neighbour}
+use Rattle.peano_keys.specs.Cell.{IsCell, at, parent_of}
 use Rattle.peano_curve.specs.declared.order.Direction.{Direction}
-use Rattle.peano_curve.specs.Order.{rank_from, rank_of}
-use Rattle.peano_curve.specs.Run.{Later, CellLater, DifferOn}
-use Rattle.peano_curve.specs.Passing.{UpTo, Among, IsBeside, AreBeside, TurnsOn, NextIs, NoneLater, Crosses, NoneLaterRound, NextRound, SpanRound}
+use Rattle.peano_curve.specs.Order.{rank_from}
+use Rattle.peano_curve.specs.Passing.{AreBeside, TurnsOn, Crosses}
 use Rattle.peano_curve.proofs.Splits.{Quiet}
 use Rattle.peano_curve.proofs.Levels.{Within}
 use Rattle.peano_curve.proofs.Turns.{next_third, next_second, next_first, next_above}

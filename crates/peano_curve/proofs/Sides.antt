@@ -1,12 +1,11 @@
 -- The cells on both sides of the planes of a vertex.
-use Rattle.std.proofs.Common.{◌≡◌, ℕ, ◌+◌, ◌^◌, ◌<◌, ◌≤◌, ap, subst, sym, ◌∙◌, refl}
+use Rattle.std.proofs.Common.{◌≡◌, ℕ, ◌+◌, ◌^◌, ◌<◌, ◌≤◌, ap, subst, sym, ◌∙◌}
 use Rattle.peano_keys.specs.declared.cell.CellKey.{CellKey}
 use Rattle.peano_keys.specs.declared.vertex.VertexKey.{VertexKey}
 use Rattle.peano_keys.specs.declared.dim.Dim.{Dim}
-use Rattle.peano_keys.specs.declared.dim.Dim.TheVariants.{Two, Three}
 use Rattle.peano_keys.specs.Dim.{third_extent}
-use Rattle.peano_keys.specs.Cell.{IsCell, at, triple}
-use Rattle.peano_keys.specs.Vertex.{Touches, plane}
+use Rattle.peano_keys.specs.Cell.{at, triple}
+use Rattle.peano_keys.specs.Vertex.{plane}
 use Rattle.peano_curve.specs.Passing.{Among, SpanRound}
 
 -- on an axis: each place next to the plane is one of two

@@ -1,13 +1,12 @@
 -- The next place round a vertex, level by level, in both dimensions.
-use Rattle.std.proofs.Common.{◌≡◌, ◌≢◌, ◌⊎◌, inl, inr, ℕ, zero, suc, ◌+◌, ◌*◌, ◌/◌, ◌%◌, ◌-◌, ◌^◌, ◌<◌, ◌≤◌, arith, ⊎_elim, refl, sym, ap, subst, ◌∙◌, sub-one, Option, Some, None}
+use Rattle.std.proofs.Common.{◌≡◌, ℕ, suc, ◌+◌, ◌/◌, ◌%◌, ◌^◌, ◌<◌, arith, sym, ap, subst, Option, Some}
 use Rattle.std.proofs.Math.Nat.{pow-suc}
 use Rattle.peano_keys.specs.declared.dim.Dim.{Dim}
 use Rattle.peano_keys.specs.declared.dim.Dim.TheVariants.{Two, Three}
-use Rattle.peano_keys.specs.Dim.{third_extent}
 use Rattle.peano_curve.specs.declared.order.Direction.{Direction}
 use Rattle.peano_curve.specs.Order.{turned, rank_from}
-use Rattle.peano_curve.specs.Passing.{Among, IsBeside, TurnsOn, Crosses}
-use Rattle.peano_curve.proofs.Splits.{Quiet, quiet, turned_same, later_up_to, up_to_refl}
+use Rattle.peano_curve.specs.Passing.{IsBeside, TurnsOn, Crosses}
+use Rattle.peano_curve.proofs.Splits.{Quiet, later_up_to, up_to_refl}
 use Rattle.peano_curve.proofs.Levels.{Within, twice, thrice, rank_thrice, rank_twice, rank_apart, like_turn, below_among, third_beside, twice_second, twice_first, twice_above, thrice_third, thrice_above}
 
 module _ (dir : Direction) (l x0 x1 x2 y0 y1 y2 : ℕ) (b0 : IsBeside x0 y0) (b1 : IsBeside x1 y1) (b2 : IsBeside x2 y2) where

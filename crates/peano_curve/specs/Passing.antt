@@ -1,5 +1,5 @@
 -- Cells at the corners of a box: which comes next after one of them, and on which axis it lies.
-use Rattle.std.specs.Prelude.{◌≡◌, ◌≢◌, ◌⊎◌, ℕ, zero, suc, ◌+◌, ◌/◌, ◌%◌, ◌<◌, ◌≤◌, Option, Some, None}
+use Rattle.std.specs.Prelude.{◌≡◌, ◌≢◌, ◌⊎◌, ℕ, zero, suc, ◌+◌, ◌/◌, ◌%◌, ◌≤◌, Option, Some, None}
 use Rattle.peano_keys.specs.declared.cell.CellKey.{CellKey}
 use Rattle.peano_keys.specs.declared.vertex.VertexKey.{VertexKey}
 use Rattle.peano_keys.specs.declared.dim.Dim.{Dim}

@@ -2,6 +2,7 @@
 //! Orders come from the first and the next child; no list is made and no table is kept.
 #![tactic(auto)]
 
+pub mod laws;
 mod order;
 mod passing;
 mod range;

@@ -7,9 +7,8 @@ ghost use Rattle.peano_curve.specs.Order.{rank_from};
 ghost use Rattle.peano_curve.specs.Run.{Later, DifferOn};
 ghost use Rattle.peano_curve.specs.Passing.{Among, IsBeside, AreBeside, TurnsOn, Crosses, NoneLaterRound, NextRound, SpanRound};
 
-use peano_keys::{CellKey, Dim, VertexKey, parent};
-
 use crate::order::{Direction, turn};
+use peano_keys::{CellKey, Dim, VertexKey, parent};
 
 fn is_later(dir: Direction, from: u32, to: u32) -> bool
     ensures { IsTrue result ↔ Later dir from to }

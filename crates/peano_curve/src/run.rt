@@ -2,11 +2,10 @@
 ghost use Rattle.std.specs.Prelude.{◌≡◌, ◌<◌, ◌≤◌, MatchOption, IfSome};
 ghost use Rattle.peano_curve.specs.Run.{lane_from, InRun, Follows, IsLast, IsFirst, DifferOn};
 
-use peano_keys::{CellKey, Dim, VertexKey};
-
 use crate::order::{Direction, interval};
 use crate::passing::next_round;
 use crate::range::Range;
+use peano_keys::{CellKey, Dim, VertexKey};
 
 /// The lane by which a vertex passes between two cells that differ on an axis, in either direction.
 pub fn lane_of(vertex: &VertexKey, axis: u32) -> u32

@@ -1,7 +1,7 @@
 use Rattle.std.proofs.Common.{arith, sym, subst, ◌∙◌, ◌-◌, ◌/◌}
 use Rattle.std.proofs.lemmas.Bool.{false≢true}
 use Rattle.peano_keys.specs.declared.cell.CellKey.{CellKey}
-use Rattle.peano_keys.specs.Cell.{at, parent_of}
+use Rattle.peano_keys.specs.Cell.{at}
 use Rattle.peano_curve.specs.Order.{rank_from}
 use Rattle.peano_curve.specs.Passing.{TurnsOn}
 use Rattle.peano_curve.proofs.Splits.{quiet}
