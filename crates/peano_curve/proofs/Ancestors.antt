@@ -1,13 +1,14 @@
 -- Ranks of ancestors and of descendants.
-use Rattle.std.proofs.Common.{◌≡◌, ℕ, zero, suc, ◌+◌, ◌-◌, ◌*◌, ◌/◌, ◌%◌, ◌^◌, ◌<◌, ◌≤◌, arith, lit<, refl, sym, ap, subst, ◌∙◌, sub-one}
+use Rattle.std.proofs.Common.{◌≡◌, ℕ, zero, suc, ◌+◌, ◌-◌, ◌*◌, ◌/◌, ◌%◌, ◌^◌, ◌<◌, ◌≤◌, arith, refl, sym, ap, subst, ◌∙◌, sub-one}
 use Rattle.std.proofs.lemmas.Bool.Decides.{nat_tests}
-use Rattle.std.proofs.Math.Nat.{pow-zero, pow-succ', div-div-eq-div-mul, lt_of_mul-lt-mul_left, mul_comm, one-le-pow}
+use Rattle.std.proofs.Math.Nat.{pow-zero, pow-succ', div-div-eq-div-mul, lt_of_mul-lt-mul_left, mul_comm}
 use Rattle.std.proofs.lemmas.Nat.{pow-add, div_below}
 use Rattle.peano_keys.specs.declared.cell.CellKey.{CellKey}
 use Rattle.peano_keys.specs.declared.dim.Dim.{Dim}
 use Rattle.peano_keys.specs.declared.dim.Dim.TheVariants.{Two, Three}
 use Rattle.peano_keys.specs.Dim.{third_extent}
 use Rattle.peano_keys.specs.Cell.{IsCell, at}
+use Rattle.peano_keys.proofs.Powers.{pow3_positive}
 use Rattle.peano_curve.specs.Order.{children, place_of, rank_from, rank_of, interval_of}
 use Rattle.peano_curve.specs.Run.{Holds}
 use Rattle.peano_curve.specs.Laws.{ancestor_of, IsIn, IntervalIsDescendants}
@@ -54,9 +55,6 @@ rank_of_ancestor dim a l h = let e : a.level ≡ l + (a.level - l) = omega arith
 
 pub pow3_parts : (l n : ℕ) → l ≤ n → 3 ^ n ≡ 3 ^ l * 3 ^ (n - l)
 pow3_parts l n h = let e : n ≡ l + (n - l) = omega arith in ap (λ k. 3 ^ k) e ∙ pow-add 3 l (n - l)
-
-pub pow3_positive : (m : ℕ) → 0 < 3 ^ m
-pow3_positive m = one-le-pow m 3 (lit< tt)
 
 -- the ancestor of a cell is a cell
 pub ancestor_cell : (dim : Dim) (a : CellKey) (l : ℕ) → IsCell dim a → l ≤ a.level → IsCell dim (ancestor_of a l)

@@ -15,11 +15,11 @@ use Rattle.peano_curve.specs.Order.{turned, rank_from, rank_of}
 use Rattle.peano_curve.specs.Run.{DifferOn}
 use Rattle.peano_curve.specs.Passing.{UpTo, IsBeside, NextIs, TurnsOn, Crosses, NoneLaterRound, NextRound, SpanRound}
 use Rattle.peano_curve.specs.Laws.{RunIsGray, RanksTellApart}
-use Rattle.peano_curve.proofs.Splits.{later_or, later_up_to, up_to_refl, quiet}
+use Rattle.peano_curve.proofs.Splits.{later_or, later_up_to, up_to_refl, quiet, up_to_split}
 use Rattle.peano_curve.proofs.Levels.{Within, rank_apart, third_beside, within_up}
 use Rattle.peano_curve.proofs.Turns.{next_third, next_second, next_first, next_above}
 use Rattle.peano_curve.proofs.Sides.{Both, span_round}
-use Rattle.peano_curve.proofs.Held.{held_between, later_of}
+use Rattle.peano_curve.proofs.Held.{held_between}
 
 pub ranks_tell_apart : RanksTellApart
 ranks_tell_apart dim a b ha hb level same =
@@ -155,6 +155,6 @@ run_is_gray dir dim v r depth c next h =
     (λ u. ⊎_elim
     (λ same. let one : n ≡ next = ranks_tell_apart dim n next near.cell h.after.cell (sym level) same in (found.2.0, subst (λ (q : CellKey). DifferOn dim found.2.0 c q) one found.2.1))
     (λ between. absurd (h.none_between n (record { cell = near.cell; touches = near.touches; held = held_between dim depth r dir c n next (h.before.touches.level ∙ sym near.touches.level) level near.later between h.before.held h.after.held }) near.later between))
-    (later_of dim depth r dir (rank_of dim n) (rank_of dim next) u))
+    (up_to_split dir (rank_of dim n) (rank_of dim next) u))
     (near.nearest next h.after.cell h.after.touches))
     (next_across dir dim v c h.before.cell h.before.touches)

@@ -1,7 +1,6 @@
 -- Held cells of a run: those between two held ones are held, so the next cell of all round a vertex decides.
-use Rattle.std.proofs.Common.{◌≡◌, ◌⊎◌, inl, inr, ℕ, suc, ◌+◌, ◌-◌, ◌*◌, ◌<◌, ◌≤◌, arith, ⊎_elim, sym, ap, subst, ◌∙◌}
+use Rattle.std.proofs.Common.{◌≡◌, ℕ, suc, ◌+◌, ◌-◌, ◌*◌, ◌<◌, ◌≤◌, arith, ⊎_elim, sym, ap, subst, ◌∙◌}
 use Rattle.std.proofs.Math.Nat.{mul-le-mul_right}
-use Rattle.std.proofs.lemmas.Bool.{cases_eq}
 use Rattle.peano_keys.specs.declared.cell.CellKey.{CellKey}
 use Rattle.peano_keys.specs.declared.vertex.VertexKey.{VertexKey}
 use Rattle.peano_keys.specs.declared.dim.Dim.{Dim}
@@ -9,10 +8,10 @@ use Rattle.peano_curve.specs.declared.order.Direction.{Direction}
 use Rattle.peano_curve.specs.declared.order.Direction.TheVariants.{Forward, Backward}
 use Rattle.peano_curve.specs.declared.range.Range.{Range}
 use Rattle.peano_curve.specs.Order.{rank_of, width_of, interval_of}
-use Rattle.peano_curve.specs.Run.{Meets, HoldsCell, Later, CellLater, InRun, Follows, IsLast}
-use Rattle.peano_curve.specs.Passing.{UpTo, NoneLaterRound, NextRound}
+use Rattle.peano_curve.specs.Run.{Meets, HoldsCell, CellLater, InRun, IsLast}
+use Rattle.peano_curve.specs.Passing.{NextRound}
 use Rattle.peano_curve.proofs.Ranks.{width_positive}
-use Rattle.peano_curve.proofs.Splits.{later_up_to}
+use Rattle.peano_curve.proofs.Splits.{later_up_to, up_to_split}
 
 -- a range that shares positions with an earlier and a later interval of one width holds all of one between
 between : (w a s b : ℕ) (r : Range) → 0 < w → a < s → s < b → Meets (record { lo = a * w; hi = a * w + w }) r → Meets (record { lo = b * w; hi = b * w + w }) r → Meets (record { lo = s * w; hi = s * w + w }) r
@@ -34,15 +33,7 @@ module _ (dim : Dim) (depth : ℕ) (r : Range) where
   held_between Forward c s q ec eq first second hc hq = between (width_of dim s.level depth) (rank_of dim c) (rank_of dim s) (rank_of dim q) r (width_positive dim (depth - s.level)) first second (at_level s.level c ec hc) (at_level s.level q eq hq)
   held_between Backward c s q ec eq first second hc hq = between (width_of dim s.level depth) (rank_of dim q) (rank_of dim s) (rank_of dim c) r (width_positive dim (depth - s.level)) second first (at_level s.level q eq hq) (at_level s.level c ec hc)
 
-  pub later_of : (dir : Direction) (a b : ℕ) → UpTo dir a b → (a ≡ b) ⊎ Later dir a b
-  later_of Forward a b u = ⊎_elim inl (λ n. inr (omega arith)) (cases_eq a b)
-  later_of Backward a b u = ⊎_elim inl (λ n. inr (omega arith)) (cases_eq a b)
-
   module _ (dir : Direction) (v : VertexKey) (c : CellKey) (member : InRun dim v r depth c) where
-    -- nothing later round the vertex: the cell is the run's last
-    pub last_of_all : NoneLaterRound dir dim v c → IsLast dir dim v r depth c
-    last_of_all none q in_run later = later_up_to dir (rank_of dim c) (rank_of dim q) later (none q in_run.cell in_run.touches)
-
     -- the next cell round the vertex is not held: nor is any later one
     pub last_held : (n : CellKey) → NextRound dir dim v c n → ¬ HoldsCell dim depth r n → IsLast dir dim v r depth c
     last_held n next free q in_run later =
@@ -53,17 +44,5 @@ module _ (dim : Dim) (depth : ℕ) (r : Range) where
         (λ u. ⊎_elim
         (λ e. free (subst (λ i. Meets i r) (interval_by_rank dim depth q n level_q (sym e)) in_run.held))
         (λ l. free (held_between dir c n q (member.touches.level ∙ sym level_n) level_q next.later l member.held in_run.held))
-        (later_of dir (rank_of dim n) (rank_of dim q) u))
+        (up_to_split dir (rank_of dim n) (rank_of dim q) u))
         (next.nearest q in_run.cell in_run.touches)
-
-    -- it is held: then it follows
-    pub follows_held : (n : CellKey) → NextRound dir dim v c n → HoldsCell dim depth r n → Follows dir dim v r depth c n
-    follows_held n next held = record {
-      before = member;
-      after = record { cell = next.cell; touches = next.touches; held = held };
-      later = next.later;
-      none_between = λ q in_run after before. ⊎_elim
-          (λ u. later_up_to dir (rank_of dim c) (rank_of dim q) after u)
-          (λ u. later_up_to dir (rank_of dim q) (rank_of dim n) before u)
-          (next.nearest q in_run.cell in_run.touches);
-    }

@@ -166,6 +166,10 @@ pub below_among : (e x y t : ℕ) → x < e → y < e → Among x y t → t < e
 below_among e x y t hx hy (inl h) = omega arith
 below_among e x y t hx hy (inr h) = omega arith
 
+third_among : (n x y t : ℕ) → x / 3 < n → y / 3 < n → Among x y t → t / 3 < n
+third_among n x y t hx hy (inl h) = omega arith
+third_among n x y t hx hy (inr h) = omega arith
+
 pub third_beside : (x y : ℕ) → IsBeside x y → IsBeside (x / 3) (y / 3)
 third_beside x y b = record { low = omega (arith, b.low); high = omega (arith, b.high) }
 
@@ -173,10 +177,6 @@ third_beside x y b = record { low = omega (arith, b.low); high = omega (arith, b
 module _ (dir : Direction) (e f g : ℕ) (rank : ℕ → ℕ → ℕ → ℕ) (apart : TellsApart (λ a b c. (a < e) × (b < f) × (c < g)) rank) (x0 x1 x2 y0 y1 y2 : ℕ) (hx0 : x0 / 3 < e) (hy0 : y0 / 3 < e) (hx1 : x1 / 3 < f) (hy1 : y1 / 3 < f) (hx2 : x2 < g) (hy2 : y2 < g) where
   abbrev Coarse : ℕ → ℕ → ℕ → Type 0
   Coarse a b c = (a < e) × (b < f) × (c < g)
-
-  third_among : (n x y t : ℕ) → x / 3 < n → y / 3 < n → Among x y t → t / 3 < n
-  third_among n x y t hx hy (inl h) = omega arith
-  third_among n x y t hx hy (inr h) = omega arith
 
   inside_first : (t0 t1 t2 : ℕ) → Among x0 y0 t0 → Among (x1 / 3) (y1 / 3) t1 → Among x2 y2 t2 → Coarse (t0 / 3) t1 t2
   inside_first t0 t1 t2 a0 a1 a2 = (third_among e x0 y0 t0 hx0 hy0 a0, below_among f (x1 / 3) (y1 / 3) t1 hx1 hy1 a1, below_among g x2 y2 t2 hx2 hy2 a2)
@@ -208,12 +208,8 @@ module _ (dir : Direction) (e f g : ℕ) (rank : ℕ → ℕ → ℕ → ℕ) (a
   abbrev Fine : ℕ → ℕ → ℕ → Type 0
   Fine c a b = (a / 3 < e) × (b / 3 < f) × (c < g)
 
-  third_of : (n x y t : ℕ) → x / 3 < n → y / 3 < n → Among x y t → t / 3 < n
-  third_of n x y t hx hy (inl h) = omega arith
-  third_of n x y t hx hy (inr h) = omega arith
-
   inside_third : (t2 t0 t1 : ℕ) → Among x2 y2 t2 → Among x0 y0 t0 → Among x1 y1 t1 → Fine (t2 / 3) t0 t1
-  inside_third t2 t0 t1 a2 a0 a1 = (third_of e x0 y0 t0 hx0 hy0 a0, third_of f x1 y1 t1 hx1 hy1 a1, third_of g x2 y2 t2 hx2 hy2 a2)
+  inside_third t2 t0 t1 a2 a0 a1 = (third_among e x0 y0 t0 hx0 hy0 a0, third_among f x1 y1 t1 hx1 hy1 a1, third_among g x2 y2 t2 hx2 hy2 a2)
 
   apart_second : TellsApart Fine (λ c a b. twice rank a b c)
   apart_second = rotate_apart (λ a b c. (a / 3 < e) × (b / 3 < f) × (c < g)) (twice rank) (twice_apart (λ a b c. (a < e) × (b < f) × (c < g)) rank apart)

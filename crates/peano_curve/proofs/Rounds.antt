@@ -1,8 +1,8 @@
 -- The next cell round a vertex, in keys.
-use Rattle.std.proofs.Common.{◌≡◌, ℕ, suc, ◌+◌, ◌-◌, ◌/◌, ◌<◌, arith, sym, ap, subst, ◌∙◌, Option, Some}
+use Rattle.std.proofs.Common.{◌≡◌, ℕ, suc, ◌+◌, ◌-◌, ◌/◌, ◌<◌, arith, sym, subst, ◌∙◌, Option, Some}
 use Rattle.peano_keys.specs.declared.cell.CellKey.{CellKey}
 use Rattle.peano_keys.specs.declared.dim.Dim.{Dim}
-use Rattle.peano_keys.specs.Cell.{IsCell, at, parent_of}
+use Rattle.peano_keys.specs.Cell.{IsCell, at}
 use Rattle.peano_curve.specs.declared.order.Direction.{Direction}
 use Rattle.peano_curve.specs.Order.{rank_from}
 use Rattle.peano_curve.specs.Passing.{AreBeside, TurnsOn, Crosses}
@@ -35,11 +35,3 @@ module _ (dir : Direction) (dim : Dim) (c d : CellKey) (cell : IsCell dim c) (ot
 
   pub turn_up : (o : Option ℕ) → Quiet dir (at c 0 + at c 1) (at c 2) (at d 2) → Quiet dir (at c 0 + at c 2 / 3) (at c 1) (at d 1) → Quiet dir (at c 1 / 3 + at c 2 / 3) (at c 0) (at d 0) → TurnsOn dir (rank_from dim (c.level - 1)) (at c 0 / 3) (at c 1 / 3) (at c 2 / 3) (at d 0 / 3) (at d 1 / 3) (at d 2 / 3) o → Turn o
   turn_up o still more most h = down o (next_above dir (c.level - 1) _ _ _ _ _ _ b.first b.second b.third dim (within dim _ c cell up) (within dim _ d other (sym b.level ∙ up)) o still more most h)
-
-pub parents_beside : (c d : CellKey) → AreBeside c d → AreBeside (parent_of c) (parent_of d)
-parents_beside c d b = record {
-  level = ap (λ l. l - 1) b.level;
-  first = record { low = omega (arith, b.first.low); high = omega (arith, b.first.high) };
-  second = record { low = omega (arith, b.second.low); high = omega (arith, b.second.high) };
-  third = record { low = omega (arith, b.third.low); high = omega (arith, b.third.high) };
-}

@@ -21,7 +21,7 @@ pub up_to_refl : (dir : Direction) (a b : ℕ) → a ≡ b → UpTo dir a b
 up_to_refl Forward a b e = omega arith
 up_to_refl Backward a b e = omega arith
 
-up_to_split : (dir : Direction) (a b : ℕ) → UpTo dir a b → (a ≡ b) ⊎ Later dir a b
+pub up_to_split : (dir : Direction) (a b : ℕ) → UpTo dir a b → (a ≡ b) ⊎ Later dir a b
 up_to_split Forward a b u = ⊎_elim inl (λ n. inr (omega arith)) (cases_eq a b)
 up_to_split Backward a b u = ⊎_elim inl (λ n. inr (omega arith)) (cases_eq a b)
 

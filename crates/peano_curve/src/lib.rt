@@ -7,6 +7,8 @@ mod order;
 mod passing;
 mod range;
 mod run;
+#[cfg(test)]
+mod tests;
 
 pub use order::{Direction, centre, compare, first_child, interval, next_child};
 pub use range::Range;
