@@ -1,11 +1,12 @@
 -- Neighbours across faces, axis by axis.
-use Rattle.std.proofs.Common.{◌≡◌, ℕ, ◌+◌, ◌-◌, ◌^◌, ◌<◌, Bool, true, false, if◌then◌else◌, List, [], ◌∷◌, length, Option, Some, None, refl, sym, ap, ◌∙◌, lt-ltb, arith}
-use Rattle.std.specs.Prelude.{slice_index, slice_set}
+use Rattle.std.proofs.Common.{◌≡◌, ℕ, ◌+◌, ◌-◌, ◌^◌, ◌<◌, Bool, true, false, if◌then◌else◌, List, length, Option, Some, None, refl, sym, ap, ◌∙◌, lt-ltb, arith}
+use Rattle.std.specs.Prelude.{slice_set}
 use Rattle.std.proofs.lemmas.Bool.Decides.{nat_tests}
 use Rattle.std.proofs.lemmas.Bool.{false≢true}
 use Rattle.peano_keys.specs.declared.cell.CellKey.{CellKey}
 use Rattle.peano_keys.specs.Cell.{at, triple, neighbour_of}
 use Rattle.peano_keys.specs.Field.{face_on}
+use Rattle.peano_keys.proofs.Positions.{three}
 
 -- the next place on an axis, below `e`
 abbrev pub Next : Bool → ℕ → ℕ → ℕ → Type 0
@@ -21,14 +22,7 @@ abbrev pub placed : CellKey → ℕ → ℕ → List ℕ
 placed c i y = slice_set (triple (at c 0) (at c 1) (at c 2)) i y
 
 set_place : (c : CellKey) (i y : ℕ) → length c.x ≡ 3 → slice_set c.x i y ≡ placed c i y
-set_place c i y shape = ap (λ (xs : List ℕ). slice_set xs i y) (whole c.x shape)
-  where
-    whole : (xs : List ℕ) → length xs ≡ 3 → xs ≡ triple (slice_index xs 0) (slice_index xs 1) (slice_index xs 2)
-    whole (a ∷ b ∷ c ∷ []) h = refl
-    whole [] h = absurd (omega arith)
-    whole (a ∷ []) h = absurd (omega arith)
-    whole (a ∷ b ∷ []) h = absurd (omega arith)
-    whole (a ∷ b ∷ c ∷ d ∷ xs) h = absurd (omega arith)
+set_place c i y shape = ap (λ (xs : List ℕ). slice_set xs i y) (sym (three c.x shape))
 
 if_some : (b : Bool) (x y : CellKey) → (if b then Some x else None) ≡ Some y → (b ≡ true) × (y ≡ x)
 if_some true x y h = (refl, sym (ap (λ (o : Option CellKey). elim o as (λ _. CellKey) [ Some z ↦ z | None ↦ x ]) h))

@@ -8,6 +8,8 @@ pub mod laws;
 mod power;
 mod side;
 mod state;
+#[cfg(test)]
+mod tests;
 mod vertex;
 
 pub use cell::{CellKey, Face, child, is_cell, neighbour, parent};

@@ -1,0 +1,4 @@
+pub mod Order
+pub mod Run
+pub mod Passing
+pub mod Laws
