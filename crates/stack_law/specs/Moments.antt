@@ -1,0 +1,37 @@
+-- What a lane holds at a moment of a walk: what was given and not taken.
+use Rattle.std.specs.Prelude.{◌≡◌, ℕ, ◌==◌, ◌&&◌, Bool, true, List, [], ◌++◌, Some, reverse}
+use Rattle.stack_law.specs.Boxes.{Axis, Side, Box, beyond}
+use Rattle.stack_law.specs.Once.{IsIn}
+use Rattle.stack_law.specs.Stack.{Event, on_lane, run_all, pushed, popped, without, AreDistinct}
+
+abbrev pub same_box : Box → Box → Bool
+same_box b c = (b.x0 == c.x0) && ((b.x1 == c.x1) && (b.x2 == c.x2))
+
+-- what passes for a vertex to a cell; both belong to the level that has `splits` splits left
+pub record Passing : Type 0 where
+  pub splits : ℕ
+  pub vertex : Box
+  pub cell : Box
+
+abbrev pub passing : ℕ → Box → Box → Passing
+passing m v q = record { splits = m; vertex = v; cell = q }
+
+abbrev pub same_passing : Passing → Passing → Bool
+same_passing p q = (p.splits == q.splits) && (same_box p.vertex q.vertex && same_box p.cell q.cell)
+
+-- the test tells items apart
+pub record Decides (A : Type 0) (same : A → A → Bool) : Type 0 where
+  pub reflexive : (x : A) → same x x ≡ true
+  pub exact : (x y : A) → same x y ≡ true → x ≡ y
+
+-- each item names the cell that receives it, and no cell has an item twice for one neighbour
+pub record IsNamed (A : Type 0) (same : A → A → Bool) (splits_of : A → ℕ) (receiver_of : A → Box) (items : ℕ → Box → Axis → Side → List A) : Type 0 where
+  pub level : (m : ℕ) (b : Box) (i : Axis) (h : Side) (x : A) → IsIn x (items m b i h) → splits_of x ≡ m
+  pub receiver : (m : ℕ) (b : Box) (i : Axis) (h : Side) (x : A) → IsIn x (items m b i h) → receiver_of x ≡ beyond i h b
+  pub distinct : (m : ℕ) (b : Box) (i : Axis) (h : Side) → AreDistinct same (items m b i h)
+
+-- a lane's steps so far leave on it exactly what was given and not taken, the newest first
+pub record HoldsTheRest (A : Type 0) (same : A → A → Bool) (done : List (Event A)) : Type 0 where
+  pub now : ℕ → List A
+  pub reached : run_all same (λ k. []) done ≡ Some now
+  pub rest : (k : ℕ) → now k ≡ reverse (without same (popped (on_lane k done)) (pushed (on_lane k done)))
