@@ -1,16 +1,17 @@
 -- One item a face.
-use Rattle.std.proofs.Common.{◌≡◌, ℕ, ◌+◌, ◌-◌, ◌<◌, Bool, true, false, ◌&&◌, if◌then◌else◌, List, [], ◌∷◌, ◌++◌, reverse, flat_map, map, refl, sym, ap, ◌∙◌, arith, Some, inl, inr}
-use Rattle.stack_law.specs.Boxes.{Axis, Side, Box, Direction, first, second, third, low, high, opposite, coord, beyond, lane}
+use Rattle.std.proofs.Common.{◌≡◌, ℕ, ◌-◌, Bool, true, false, ◌&&◌, if◌then◌else◌, List, [], ◌∷◌, reverse, flat_map, refl, sym, ap, ◌∙◌, arith, inl, inr}
+use Rattle.stack_law.specs.Boxes.{Axis, Side, Box, Direction, first, second, third, low, high, opposite, beyond, lane}
 use Rattle.stack_law.specs.Visits.{Way, Faces, Visit, entry, exit, wall, enter, leave, visits, walls}
-use Rattle.stack_law.specs.Stack.{Event, push, pop, AreDistinct, run_all}
+use Rattle.stack_law.specs.Stack.{Event, push, pop, AreDistinct}
 use Rattle.stack_law.specs.Passings.{over_faces, at_entry, at_exit, on_each, passings, taken, given}
-use Rattle.stack_law.specs.Order.{WayIs, rank, extent, IsRightCell, IsRightVisit}
+use Rattle.stack_law.specs.Order.{WayIs, rank, extent, IsRightVisit}
 use Rattle.stack_law.specs.Once.{IsIn}
-use Rattle.stack_law.specs.Moments.{Decides, IsNamed}
+use Rattle.stack_law.specs.Moments.{IsNamed}
 use Rattle.stack_law.specs.Fluxes.{given_across, taken_across, by_faces}
 use Rattle.stack_law.specs.Walk.{walk, HappensAtVisited}
 use Rattle.stack_law.specs.Instances.{FluxesUseStacks}
-use Rattle.stack_law.specs.Laws.{root, events}
+use Rattle.stack_law.specs.Domain.{root}
+use Rattle.stack_law.specs.LaneLaws.{events}
 use Rattle.stack_law.proofs.Ways.{ways_follow_the_order}
 use Rattle.stack_law.proofs.Corners.{there_and_back}
 use Rattle.stack_law.proofs.Together.{lanes_are_stacks}

@@ -1,16 +1,17 @@
 -- In a walk nothing is given twice on one lane.
-use Rattle.std.proofs.Common.{◌≡◌, ◌≢◌, ℕ, suc, ◌+◌, ◌*◌, ◌-◌, ◌%◌, ◌==◌, ◌<◌, ◌≤◌, Bool, true, false, cond, Option, ◌&&◌, ◌||◌, if◌then◌else◌, List, [], ◌∷◌, ◌++◌, map, reverse, flat_map, refl, sym, ap, ◌∙◌, subst, arith, Some, None, ⊎_elim, inl, inr, ◌⊎◌, append_assoc, append-nil, eq-eqb, eqb-true}
+use Rattle.std.proofs.Common.{◌≡◌, ℕ, ◌+◌, ◌*◌, ◌-◌, ◌%◌, ◌==◌, ◌<◌, ◌≤◌, Bool, true, false, cond, Option, ◌||◌, List, [], ◌∷◌, ◌++◌, map, flat_map, refl, sym, ap, ◌∙◌, subst, arith, Some, None, ⊎_elim, inl, inr, ◌⊎◌, eq-eqb, eqb-true}
 use Rattle.std.specs.List.{AllByRecursion}
 use Rattle.std.proofs.lemmas.Bool.{cases_lt}
-use Rattle.stack_law.specs.Boxes.{Axis, Side, Box, Direction, first, second, third, low, high, opposite, size, number, coord, moved, beyond, lane}
+use Rattle.stack_law.specs.Boxes.{Axis, Side, Box, Direction, first, second, third, low, high, size, number, coord, beyond, lane}
 use Rattle.stack_law.specs.Visits.{Way, Faces, Visit, entry, exit, wall, enter, leave, visits, walls}
-use Rattle.stack_law.specs.Stack.{Step, Event, push, pop, run, on_lane, run_all, stepped, replaced, pushed, popped, among, without, AreDistinct}
-use Rattle.stack_law.specs.Passings.{at_entry, at_exit, passings, over_faces, taken, given}
-use Rattle.stack_law.specs.Order.{IsInner, IsOuter, IsInDomain, rank, extent, WayIs, IsRightCell, IsRightVisit}
+use Rattle.stack_law.specs.Stack.{Step, Event, push, pop, run, on_lane, run_all, stepped, replaced, pushed, among, AreDistinct}
+use Rattle.stack_law.specs.Passings.{at_entry, at_exit, passings}
+use Rattle.stack_law.specs.Order.{IsInner, rank, extent, WayIs, IsRightCell, IsRightVisit}
 use Rattle.stack_law.specs.Once.{IsAscending, IsIn, left_at}
 use Rattle.stack_law.specs.Moments.{Decides, IsNamed, HoldsTheRest}
 use Rattle.stack_law.specs.MomentLaws.{LanesHoldTheRest}
-use Rattle.stack_law.specs.Laws.{root, events}
+use Rattle.stack_law.specs.Domain.{root}
+use Rattle.stack_law.specs.LaneLaws.{events}
 use Rattle.stack_law.proofs.Seen.{on_lane-append, enter_lane, leave_lane}
 use Rattle.stack_law.proofs.Chains.{each_in, in_left, in_right}
 use Rattle.stack_law.proofs.Corners.{there_and_back, face_of}

@@ -1,14 +1,14 @@
 -- In a walk no corner is given twice on one lane.
-use Rattle.std.proofs.Common.{◌≡◌, ◌≢◌, ℕ, suc, ◌+◌, ◌-◌, ◌==◌, ◌<◌, Bool, true, false, ◌&&◌, ◌||◌, if◌then◌else◌, List, [], ◌∷◌, ◌++◌, flat_map, refl, sym, ap, ◌∙◌, subst, arith, ⊎_elim, inl, inr, ◌⊎◌, eq-eqb, eqb-true}
+use Rattle.std.proofs.Common.{◌≡◌, ℕ, ◌+◌, ◌==◌, Bool, true, false, ◌&&◌, if◌then◌else◌, List, [], ◌∷◌, ◌++◌, flat_map, refl, ap, arith, ⊎_elim, inl, inr, eq-eqb, eqb-true}
 use Rattle.std.proofs.lemmas.Bool.{cases_lt}
-use Rattle.stack_law.specs.Boxes.{same_side, Axis, Side, Box, Direction, low, high, size, beyond}
+use Rattle.stack_law.specs.Boxes.{same_side, Axis, Side, Box, low, high, size, beyond}
 use Rattle.stack_law.specs.Visits.{visits, walls}
-use Rattle.stack_law.specs.Stack.{Event, on_lane, pushed, among, AreDistinct}
+use Rattle.stack_law.specs.Stack.{Event, on_lane, pushed, AreDistinct}
 use Rattle.stack_law.specs.Once.{IsIn}
-use Rattle.stack_law.specs.Corners.{same_corner, Corner, corner, all_corners, vertex, by_corners, AllPass}
-use Rattle.stack_law.specs.Moments.{Decides, IsNamed, Passing, passing, same_box, same_passing, HoldsTheRest}
+use Rattle.stack_law.specs.Corners.{same_corner, Corner, all_corners, vertex, by_corners}
+use Rattle.stack_law.specs.Moments.{Decides, IsNamed, Passing, passing, same_box, same_passing}
 use Rattle.stack_law.specs.MomentLaws.{CornerLanesHoldTheRest}
-use Rattle.stack_law.specs.Laws.{root, events}
+use Rattle.stack_law.specs.Domain.{root}
 use Rattle.stack_law.proofs.Ways.{ways_follow_the_order}
 use Rattle.stack_law.proofs.Corners.{items_of, visits_same, no_more_corners, corners_pass_along_lanes}
 use Rattle.stack_law.proofs.Given.{in_either, apart_from, not_in, given_once, at_each_moment}

@@ -1,11 +1,11 @@
 -- What a cell finds among its neighbours is what the run says.
-use Rattle.std.proofs.Common.{◌≡◌, ◌≢◌, ℕ, suc, ◌+◌, ◌-◌, ◌^◌, ◌<◌, ◌≤◌, ltb, leb, Bool, true, false, not, ◌&&◌, ◌||◌, ◌↔◌, if◌then◌else◌, refl, sym, ap, ◌∙◌, subst, arith, ⊎_elim, inl, inr, ◌⊎◌}
+use Rattle.std.proofs.Common.{◌≡◌, ℕ, ◌+◌, ◌-◌, ◌^◌, ◌<◌, ◌≤◌, leb, Bool, true, false, not, ◌&&◌, ◌||◌, refl, sym, ap, ◌∙◌, arith, ⊎_elim}
 use Rattle.std.proofs.lemmas.Bool.{cases_lt, ltb-true, lt-ltb, leb-true, le-leb}
 use Rattle.stack_law.specs.Boxes.{Axis, Side, Box, Direction, first, second, third, low, high, forward, backward, turned_round, same_side, size, coord, moved, beyond}
 use Rattle.stack_law.specs.Order.{IsInner, IsInDomain, rank, extent}
-use Rattle.stack_law.specs.Around.{Touches, IsUnbroken, IsNext, IsLastVisited, IsFirstVisited, IsCandidate}
-use Rattle.stack_law.specs.Corners.{Corner, side_on, vertex, PassesToNext, AllPassToNext}
-use Rattle.stack_law.specs.Handing.{has_neighbour, leads_later, not_sooner, leads_next, leads_nowhere, has_kept_corner, goes_on, came_from, KeptUnbroken}
+use Rattle.stack_law.specs.Around.{Touches, IsUnbroken, IsNext, IsCandidate}
+use Rattle.stack_law.specs.Corners.{Corner, side_on, vertex, PassesToNext}
+use Rattle.stack_law.specs.Handing.{has_neighbour, leads_later, not_sooner, leads_next, leads_nowhere, has_kept_corner, goes_on, came_from}
 use Rattle.stack_law.specs.HandingLaws.{NeighboursTellTheRun}
 use Rattle.stack_law.proofs.Corners.{neighbour_inside}
 use Rattle.stack_law.proofs.GivenCorners.{and_true, same_side_exact, same_side_self}
@@ -191,12 +191,14 @@ module _ (dir : Direction) (axis : ℕ → Axis) (splits : ℕ) (visited kept : 
 
     pub passes_to_next : PassesToNext place bound (visited m) (kept m) (goes_on dir axis splits visited kept m) (came_from dir axis splits visited kept m) b
     passes_to_next = record {
-      goes_on = λ c i h.
-          ((λ t. (let f = and_true (kept_corner m b c) _ t in let g = and_true (visited m b) _ f.0 in let n = next_tells place bound (visited m) b c inside (next_is_least_later_neighbour dir axis (splits - m) m (visited m) (vertex b c) b (unbroken (vertex b c) g.1) inside (touches_vertex b c) g.0).1 i h f.1 in (g.1, n.0, n.1, n.2))),
-          (λ f. and_both _ _ (and_both _ _ f.3.from f.0) (next_told place bound (visited m) b c inside i h f.1 f.2 f.3)));
-      comes_in = λ c i h.
-          ((λ t. (let f = and_true (kept_corner m b c) _ t in let g = and_true (visited m b) _ f.0 in let n = next_tells back_place bound (visited m) b c inside (next_is_least_later_neighbour (turned_round dir) axis (splits - m) m (visited m) (vertex b c) b (back_unbroken (vertex b c) g.1) inside (touches_vertex b c) g.0).1 i h f.1 in (g.1, n.0, n.1, flipped_next place back_place bound (visited m) (3 ^ (splits - m)) mirrored (vertex b c) b (beyond i h b) inside (touches_vertex b c) n.2))),
-          (λ f. and_both _ _ (and_both _ _ f.3.to f.0) (next_told back_place bound (visited m) b c inside i h f.1 f.2 (flipped_next back_place place bound (visited m) (3 ^ (splits - m)) mirrored_back (vertex b c) (beyond i h b) b (neighbour_inside bound b i h inside f.2) (touches_beyond (vertex b c) b i h (rw (coord_vertex i b c, f.1) refl) (touches_vertex b c)) f.3))));
+      goes_on = λ c i h. (
+        (λ t. (let f = and_true (kept_corner m b c) _ t in let g = and_true (visited m b) _ f.0 in let n = next_tells place bound (visited m) b c inside (next_is_least_later_neighbour dir axis (splits - m) m (visited m) (vertex b c) b (unbroken (vertex b c) g.1) inside (touches_vertex b c) g.0).1 i h f.1 in (g.1, n.0, n.1, n.2))),
+        (λ f. and_both _ _ (and_both _ _ f.3.from f.0) (next_told place bound (visited m) b c inside i h f.1 f.2 f.3)),
+      );
+      comes_in = λ c i h. (
+        (λ t. (let f = and_true (kept_corner m b c) _ t in let g = and_true (visited m b) _ f.0 in let n = next_tells back_place bound (visited m) b c inside (next_is_least_later_neighbour (turned_round dir) axis (splits - m) m (visited m) (vertex b c) b (back_unbroken (vertex b c) g.1) inside (touches_vertex b c) g.0).1 i h f.1 in (g.1, n.0, n.1, flipped_next place back_place bound (visited m) (3 ^ (splits - m)) mirrored (vertex b c) b (beyond i h b) inside (touches_vertex b c) n.2))),
+        (λ f. and_both _ _ (and_both _ _ f.3.to f.0) (next_told back_place bound (visited m) b c inside i h f.1 f.2 (flipped_next back_place place bound (visited m) (3 ^ (splits - m)) mirrored_back (vertex b c) (beyond i h b) b (neighbour_inside bound b i h inside f.2) (touches_beyond (vertex b c) b i h (rw (coord_vertex i b c, f.1) refl) (touches_vertex b c)) f.3))),
+      );
     }
 
 pub neighbours_tell_the_run : NeighboursTellTheRun

@@ -1,27 +1,25 @@
 -- The walks of the engine use their lanes as stacks.
-use Rattle.std.proofs.Common.{◌≡◌, ℕ, zero, suc, ◌+◌, ◌-◌, ◌*◌, ◌^◌, ◌<◌, ◌≤◌, ltb, Bool, true, false, not, ◌&&◌, ◌||◌, if◌then◌else◌, List, [], ◌∷◌, ◌++◌, reverse, flat_map, refl, sym, ap, ◌∙◌, subst, arith, Some, ⊎_elim, inl, inr, ◌⊎◌}
-use Rattle.std.proofs.lemmas.Bool.{ltb-true, lt-ltb}
-use Rattle.std.proofs.Math.Nat.{pow-suc, mul-le-mul_right}
-use Rattle.stack_law.specs.Boxes.{Axis, Side, Column, Box, Direction, first, second, third, low, high, forward, backward, turned_round, coord, beyond, column}
-use Rattle.stack_law.specs.Visits.{Faces, Visit, enter, leave, visits, walls}
-use Rattle.stack_law.specs.Order.{IsInDomain, rank, extent, merged}
-use Rattle.stack_law.specs.Around.{Touches, IsUnbroken}
-use Rattle.stack_law.specs.Stack.{Event, push, pop, run_all}
+use Rattle.std.proofs.Common.{◌≡◌, ℕ, zero, suc, ◌+◌, ◌-◌, Bool, true, false, not, ◌&&◌, ◌||◌, if◌then◌else◌, [], ◌∷◌, reverse, flat_map, refl, sym, ap, ◌∙◌, arith, inl, inr, ◌⊎◌}
+use Rattle.stack_law.specs.Boxes.{Axis, Column, Box, Direction, turned_round, column}
+use Rattle.stack_law.specs.Visits.{visits, walls}
+use Rattle.stack_law.specs.Order.{rank, extent}
+use Rattle.stack_law.specs.Around.{IsUnbroken}
+use Rattle.stack_law.specs.Stack.{Event}
 use Rattle.stack_law.specs.Passings.{over_faces}
-use Rattle.stack_law.specs.Corners.{Corner, all_corners, vertex, given_at, taken_at, by_corners, Passes, AllPass}
-use Rattle.stack_law.specs.Moments.{Decides, Passing, passing, same_passing, HoldsTheRest}
-use Rattle.stack_law.specs.Handing.{has_kept_corner, goes_on, came_from, ends_at, begins_at, KeptUnbroken}
-use Rattle.stack_law.specs.Streams.{taken_in, given_out, AgreeRoundKept}
-use Rattle.stack_law.specs.Walk.{walk, IsEmpty, ClosedAreEmpty, HappensAtVisited}
-use Rattle.stack_law.specs.Grids.{is_in_grid, cells_of, IsStored, KeptAreStored, meets_range, both_hold, one_holds}
-use Rattle.stack_law.specs.Instances.{lane_events, UseStacks, KeptVerticesUseStacks, OneGridUsesStacks, TwoGridsUseStacks, RangesUseStacks, GridsAreClosed, NextWalkReadsTheOutput}
-use Rattle.stack_law.specs.Laws.{root}
-use Rattle.stack_law.proofs.Ways.{merged_column, finer_column, counted_below, digit_below}
+use Rattle.stack_law.specs.Corners.{all_corners, vertex, given_at, taken_at, by_corners, AllPass}
+use Rattle.stack_law.specs.Moments.{Passing, passing, same_passing}
+use Rattle.stack_law.specs.Handing.{goes_on, came_from, ends_at, begins_at}
+use Rattle.stack_law.specs.Streams.{taken_in, given_out}
+use Rattle.stack_law.specs.Walk.{IsEmpty, ClosedAreEmpty, HappensAtVisited}
+use Rattle.stack_law.specs.Grids.{is_in_grid, cells_of, IsStored, both_hold, one_holds}
+use Rattle.stack_law.specs.Instances.{lane_events, KeptVerticesUseStacks, OneGridUsesStacks, TwoGridsUseStacks, GridsAreClosed, NextWalkReadsTheOutput}
+use Rattle.stack_law.specs.Domain.{root}
+use Rattle.stack_law.proofs.Ways.{merged_column}
 use Rattle.stack_law.proofs.Corners.{no_flat, corners_pass_along_lanes}
 use Rattle.stack_law.proofs.Vertices.{all_pass}
 use Rattle.stack_law.proofs.Walk.{walk_is}
 use Rattle.stack_law.proofs.Handing.{neighbours_tell_the_run}
-use Rattle.stack_law.proofs.GivenCorners.{and_true, passings_decided, corner_lanes_hold_the_rest}
+use Rattle.stack_law.proofs.GivenCorners.{passings_decided, corner_lanes_hold_the_rest}
 use Rattle.stack_law.proofs.Streams.{output_turned_is_input}
 
 -- what happens at kept corners happens at visited cells

@@ -1,18 +1,17 @@
 -- Each kept corner goes to one place and came from one place.
-use Rattle.std.proofs.Common.{◌≡◌, ◌≢◌, ℕ, suc, ◌+◌, ◌-◌, ◌^◌, ◌<◌, ◌≤◌, Bool, true, false, not, ◌&&◌, if◌then◌else◌, refl, sym, ap, ◌∙◌, subst, arith, ⊎_elim, inl, inr, ◌⊎◌}
+use Rattle.std.proofs.Common.{◌≡◌, ℕ, ◌+◌, ◌-◌, ◌^◌, Bool, true, false, ◌&&◌, refl, sym, ap, ◌∙◌, arith, ⊎_elim, inl, inr}
 use Rattle.stack_law.specs.Boxes.{Axis, Side, Box, Direction, first, second, third, low, high, turned_round, same_axis, coord, moved, beyond}
 use Rattle.stack_law.specs.Order.{IsInner, IsInDomain, rank, extent}
 use Rattle.stack_law.specs.Around.{Touches, IsUnbroken, IsNext, IsLastVisited, IsFirstVisited, NextAcross, IsCandidate}
 use Rattle.stack_law.specs.Corners.{Corner, side_on, vertex}
-use Rattle.stack_law.specs.Handing.{leads_next, leads_nowhere, has_kept_corner, goes_on, came_from, ends_at, begins_at, KeptUnbroken}
+use Rattle.stack_law.specs.Handing.{leads_next, leads_nowhere}
 use Rattle.stack_law.specs.HandingLaws.{IsOnlyFace, HasOneWay, EachCornerHasOneWay}
 use Rattle.stack_law.proofs.Seen.{same_axis-true}
 use Rattle.stack_law.proofs.Apart.{ranks_tell_cells_apart}
-use Rattle.stack_law.proofs.Corners.{neighbour_inside}
 use Rattle.stack_law.proofs.GivenCorners.{and_true}
 use Rattle.stack_law.proofs.Visited.{touches_beyond, next_is_least_later_neighbour, visited_runs_go_across_faces}
 use Rattle.stack_law.proofs.Digits.{backward_is_reversed}
-use Rattle.stack_law.proofs.Handing.{and_both, touches_vertex, next_tells, next_told, nowhere_tells, nowhere_told, candidate_later, inner_later, flipped_unbroken}
+use Rattle.stack_law.proofs.Handing.{touches_vertex, next_tells, next_told, nowhere_tells, nowhere_told, candidate_later, inner_later, flipped_unbroken}
 
 -- different faces lead to different boxes
 other_axis : (i j : Axis) (v : ℕ) (b : Box) → same_axis i j ≡ false → coord i (moved j v b) ≡ coord i b

@@ -1,12 +1,11 @@
 -- The cells of a tree's range.
-use Rattle.std.proofs.Common.{◌≡◌, ℕ, zero, suc, ◌+◌, ◌-◌, ◌*◌, ◌^◌, ◌<◌, ◌≤◌, ltb, Bool, true, false, ◌&&◌, refl, sym, ◌∙◌, arith, ⊎_elim}
+use Rattle.std.proofs.Common.{◌≡◌, ℕ, zero, suc, ◌+◌, ◌-◌, ◌*◌, ◌^◌, ◌<◌, ◌≤◌, ltb, Bool, true, false, ◌&&◌, arith, ⊎_elim}
 use Rattle.std.proofs.lemmas.Bool.{ltb-true, lt-ltb}
 use Rattle.std.proofs.Math.Nat.{pow-suc, mul-le-mul_right}
 use Rattle.stack_law.specs.Boxes.{Axis, Column, Box, Direction, forward, backward, digit, column, ascends}
-use Rattle.stack_law.specs.Order.{IsInDomain, rank, extent, counted}
-use Rattle.stack_law.specs.Around.{Touches, IsUnbroken}
-use Rattle.stack_law.specs.Walk.{IsEmpty, ClosedAreEmpty}
-use Rattle.stack_law.specs.Grids.{IsStored, KeptAreStored, meets_range, both_hold}
+use Rattle.stack_law.specs.Order.{rank, counted}
+use Rattle.stack_law.specs.Walk.{IsEmpty}
+use Rattle.stack_law.specs.Grids.{meets_range, both_hold}
 use Rattle.stack_law.specs.Instances.{RangesUseStacks}
 use Rattle.stack_law.proofs.Ways.{finer_column, counted_below, digit_below}
 use Rattle.stack_law.proofs.Digits.{backward_is_reversed}

@@ -1,19 +1,18 @@
 -- The output of a walk, read from its end, is the input of the next.
-use Rattle.std.proofs.Common.{◌≡◌, ℕ, ◌+◌, ◌-◌, ◌<◌, ltb, Bool, true, false, not, ◌&&◌, if◌then◌else◌, List, [], ◌∷◌, ◌++◌, map, reverse, flat_map, refl, sym, ap, ap₂, ◌∙◌, append-nil}
+use Rattle.std.proofs.Common.{◌≡◌, ℕ, ◌-◌, ltb, Bool, true, false, ◌&&◌, if◌then◌else◌, List, [], ◌∷◌, map, reverse, flat_map, refl, sym, ap, ◌∙◌, append-nil}
 use Rattle.std.specs.List.{AllByRecursion}
 use Rattle.std.proofs.lemmas.Grind.{flat_map-append}
 use Rattle.std.proofs.lemmas.List.{reverse-append}
 use mathlib.Core.List.{reverse-cons}
-use Rattle.stack_law.specs.Boxes.{Axis, Side, Box, Direction, first, second, third, turned_round, coord, beyond}
+use Rattle.stack_law.specs.Boxes.{Axis, Box, Direction, first, second, third, turned_round, coord, beyond}
 use Rattle.stack_law.specs.Visits.{Faces, Visit, enter, leave, visits, walls}
-use Rattle.stack_law.specs.Order.{IsInDomain, rank, extent, IsRightCell, IsRightVisit}
-use Rattle.stack_law.specs.Around.{Touches}
+use Rattle.stack_law.specs.Order.{rank, extent, IsRightCell, IsRightVisit}
 use Rattle.stack_law.specs.Children.{turned_visit}
 use Rattle.stack_law.specs.Corners.{Corner, all_corners, side_on, vertex}
-use Rattle.stack_law.specs.Handing.{has_neighbour, leads_later, leads_nowhere, ends_at, begins_at}
+use Rattle.stack_law.specs.Handing.{has_neighbour, leads_later, leads_nowhere, ends_at}
 use Rattle.stack_law.specs.Streams.{taken_in, given_out, AgreeRoundKept}
 use Rattle.stack_law.specs.StreamLaws.{OutputTurnedIsInput}
-use Rattle.stack_law.specs.Laws.{root}
+use Rattle.stack_law.specs.Domain.{root}
 use Rattle.stack_law.proofs.Ways.{ways_follow_the_order}
 use Rattle.stack_law.proofs.Corners.{neighbour_inside, reverse_flat}
 use Rattle.stack_law.proofs.Visited.{touches_beyond}

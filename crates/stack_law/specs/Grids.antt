@@ -1,6 +1,6 @@
 -- Grids, stored vertices and ranges, on boxes.
 use Rattle.std.specs.Prelude.{◌≡◌, ℕ, zero, suc, ◌+◌, ◌-◌, ◌*◌, ◌^◌, ◌≤◌, nat_lt, nat_le, Bool, true, not, ◌&&◌, ◌||◌, List, [], ◌∷◌}
-use Rattle.stack_law.specs.Boxes.{Axis, Side, Direction, Box, forward, first, second, third, size, coord}
+use Rattle.stack_law.specs.Boxes.{Axis, Box, forward, first, second, third, size, coord}
 use Rattle.stack_law.specs.Order.{merged, rank, extent, IsInDomain}
 use Rattle.stack_law.specs.Around.{Touches}
 use Rattle.stack_law.specs.Corners.{Corner, all_corners, side_on}

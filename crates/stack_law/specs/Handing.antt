@@ -1,8 +1,8 @@
 -- How a cell finds, among its neighbours alone, where the vertex at a corner goes next and where it came from.
-use Rattle.std.specs.Prelude.{◌≡◌, ℕ, ◌+◌, ◌-◌, ◌<◌, ◌≤◌, nat_lt, nat_le, Bool, true, not, ◌&&◌, ◌||◌}
+use Rattle.std.specs.Prelude.{◌≡◌, ℕ, ◌+◌, ◌-◌, ◌≤◌, nat_lt, nat_le, Bool, true, not, ◌&&◌, ◌||◌}
 use Rattle.stack_law.specs.Boxes.{Axis, Side, Box, Direction, first, second, third, low, high, same_side, coord, beyond, turned_round}
-use Rattle.stack_law.specs.Order.{rank, extent, IsInDomain}
-use Rattle.stack_law.specs.Around.{Touches, IsUnbroken}
+use Rattle.stack_law.specs.Order.{rank, extent}
+use Rattle.stack_law.specs.Around.{IsUnbroken}
 use Rattle.stack_law.specs.Corners.{Corner, side_on, vertex}
 
 -- whether a box lies across the face, inside the domain

@@ -1,5 +1,5 @@
 -- Laws: each kept corner of a visited cell goes to one place and came from one place.
-use Rattle.std.specs.Prelude.{◌≡◌, ◌⊎◌, ℕ, ◌-◌, ◌≤◌, Bool, true, false, List, flat_map, Some, []}
+use Rattle.std.specs.Prelude.{◌≡◌, ◌⊎◌, ℕ, ◌-◌, ◌≤◌, Bool, true, false}
 use Rattle.stack_law.specs.Boxes.{Axis, Side, Box, Direction}
 use Rattle.stack_law.specs.Order.{rank, extent, IsInDomain}
 use Rattle.stack_law.specs.Around.{IsLastVisited, IsFirstVisited}

@@ -11,7 +11,7 @@ use Rattle.stack_law.specs.Streams.{taken_in, given_out, AgreeRoundKept}
 use Rattle.stack_law.specs.Walk.{walk, ClosedAreEmpty}
 use Rattle.stack_law.specs.Grids.{cells_of, IsStored, KeptAreStored, meets_range, both_hold, one_holds}
 use Rattle.stack_law.specs.Fluxes.{by_faces}
-use Rattle.stack_law.specs.Laws.{root}
+use Rattle.stack_law.specs.Domain.{root}
 
 -- what the lanes get in a walk of the visited cells that keeps some vertices
 abbrev pub lane_events : Direction → (ℕ → Axis) → (ℕ → Bool) → ℕ → (ℕ → Box → Bool) → (ℕ → Box → Bool) → (ℕ → Box → Bool) → List (Event Passing)

@@ -1,11 +1,12 @@
 -- Laws: what the lanes hold at each moment.
-use Rattle.std.specs.Prelude.{◌≡◌, ℕ, Bool, true, List, ◌++◌, flat_map}
+use Rattle.std.specs.Prelude.{◌≡◌, ℕ, Bool, List, ◌++◌, flat_map}
 use Rattle.stack_law.specs.Boxes.{Axis, Side, Box, Direction}
 use Rattle.stack_law.specs.Visits.{visits, walls}
 use Rattle.stack_law.specs.Stack.{Event}
 use Rattle.stack_law.specs.Corners.{Corner, by_corners, AllPass}
 use Rattle.stack_law.specs.Moments.{Decides, Passing, passing, same_passing, IsNamed, HoldsTheRest}
-use Rattle.stack_law.specs.Laws.{root, events}
+use Rattle.stack_law.specs.Domain.{root}
+use Rattle.stack_law.specs.LaneLaws.{events}
 
 -- At each moment of a walk each lane holds exactly what was given and not yet taken, in the order in which it was given.
 abbrev pub LanesHoldTheRest : Type 0 → Type 0

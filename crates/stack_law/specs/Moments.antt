@@ -1,5 +1,5 @@
 -- What a lane holds at a moment of a walk: what was given and not taken.
-use Rattle.std.specs.Prelude.{◌≡◌, ℕ, ◌==◌, ◌&&◌, Bool, true, List, [], ◌++◌, Some, reverse}
+use Rattle.std.specs.Prelude.{◌≡◌, ℕ, ◌==◌, ◌&&◌, Bool, true, List, [], Some, reverse}
 use Rattle.stack_law.specs.Boxes.{Axis, Side, Box, beyond}
 use Rattle.stack_law.specs.Once.{IsIn}
 use Rattle.stack_law.specs.Stack.{Event, on_lane, run_all, pushed, popped, without, AreDistinct}

@@ -3,7 +3,7 @@ use Rattle.std.specs.Prelude.{◌≡◌, ℕ, Bool, reverse, flat_map}
 use Rattle.stack_law.specs.Boxes.{Axis, Box, Direction, turned_round}
 use Rattle.stack_law.specs.Visits.{visits, walls}
 use Rattle.stack_law.specs.Streams.{taken_in, given_out, AgreeRoundKept}
-use Rattle.stack_law.specs.Laws.{root}
+use Rattle.stack_law.specs.Domain.{root}
 
 -- What a walk gives to its output, read from its end, is what a walk the other way takes from its input, where both keep the same vertices
 -- and visit the same cells round them. So a walk of one grid is followed by a walk of the same grid, and a walk of the cells of an old and a
