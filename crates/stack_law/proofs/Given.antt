@@ -19,7 +19,8 @@ use Rattle.stack_law.proofs.Together.{no_more, lanes_are_stacks}
 use Rattle.stack_law.proofs.Held.{stacks_hold_what_was_not_taken}
 use Rattle.stack_law.proofs.Ways.{ways_follow_the_order}
 use Rattle.stack_law.proofs.Moments.{no_pop_fails}
-use Rattle.stack_law.proofs.Once.{each_cell_once}
+use Rattle.stack_law.proofs.Distinct.{distinct_left}
+use Rattle.stack_law.proofs.Leaves.{left_with, TellsCell, leaves_distinct}
 
 module _ (A : Type 0) (same : A → A → Bool) where
   one_step : (s : List A) (x : Step A) (t : List A) (xs : List (Step A)) → stepped same s x ≡ Some t → run same s (x ∷ xs) ≡ run same t xs
@@ -58,49 +59,6 @@ pub pushed_pops : {A : Type 0} (xs : List A) → pushed (map pop xs) ≡ []
 pushed_pops [] = refl
 pushed_pops (x ∷ xs) = pushed_pops xs
 
--- where an item is
-pub in_either : {V : Type 0} (x : V) (xs ys : List V) → IsIn x (xs ++ ys) → IsIn x xs ⊎ IsIn x ys
-in_either x [] ys h = inr h
-in_either x (z ∷ xs) ys (inl e) = inl (inl e)
-in_either x (z ∷ xs) ys (inr h) = ⊎_elim (λ k. inl (inr k)) (λ k. inr k) (in_either x xs ys h)
-
--- distinct lists
-module _ (A : Type 0) (same : A → A → Bool) (same_self : (x : A) → same x x ≡ true) (exact : (x y : A) → same x y ≡ true → x ≡ y) where
-  pub among_is_in : (x : A) (ys : List A) → among same x ys ≡ true → IsIn x ys
-  among_is_in x [] h = absurd (cc)
-  among_is_in x (y ∷ ys) h = go (same x y) refl (among_is_in x ys) h
-    where
-      go : (b : Bool) → same x y ≡ b → (among same x ys ≡ true → IsIn x ys) → (b || among same x ys) ≡ true → (x ≡ y) ⊎ IsIn x ys
-      go true e f h = inl (exact x y e)
-      go false e f h = inr (f h)
-
-  is_in_among : (x : A) (ys : List A) → IsIn x ys → among same x ys ≡ true
-  is_in_among x [] h = absurd h
-  is_in_among x (y ∷ ys) (inl e) = rw (← e, same_self x) refl
-  is_in_among x (y ∷ ys) (inr h) = rw (is_in_among x ys h) (or_yes (same x y))
-    where
-      or_yes : (b : Bool) → (b || true) ≡ true
-      or_yes true = refl
-      or_yes false = refl
-
-  pub apart_from : (x : A) (ys : List A) → (IsIn x ys → ⊥) → among same x ys ≡ false
-  apart_from x ys f = go (among same x ys) refl
-    where
-      go : (b : Bool) → among same x ys ≡ b → b ≡ false
-      go true e = absurd (f (among_is_in x ys e))
-      go false e = refl
-
-  pub not_in : (x : A) (ys : List A) → among same x ys ≡ false → IsIn x ys → ⊥
-  not_in x ys e h = (let f = is_in_among x ys h in cc)
-
-  pub distinct_append : (xs ys : List A) → AreDistinct same xs → AreDistinct same ys → ((x : A) → IsIn x xs → IsIn x ys → ⊥) → AreDistinct same (xs ++ ys)
-  distinct_append [] ys d e f = e
-  distinct_append (x ∷ xs) ys d e f = (apart_from x (xs ++ ys) (λ h. ⊎_elim (not_in x xs d.0) (f x (inl refl)) (in_either x xs ys h)), distinct_append xs ys d.1 e (λ z h k. f z (inr h) k))
-
-  pub distinct_left : (xs ys : List A) → AreDistinct same (xs ++ ys) → AreDistinct same xs
-  distinct_left [] ys d = tt
-  distinct_left (x ∷ xs) ys d = (apart_from x xs (λ h. not_in x (xs ++ ys) d.0 (in_left (λ z. 0) x xs ys h)), distinct_left xs ys d.1)
-
 -- the cell that gives is told by its lane and by the cell that receives
 same_number : (n n' a b : ℕ) → 2 * n + a % 2 ≡ 2 * n' + b % 2 → n ≡ n'
 same_number n n' a b e = omega arith
@@ -131,10 +89,6 @@ giver_by_axes i j h g b c e f p =
     subst (λ a. lane i h b ≡ lane a g c → IsInner h (coord i b) e → IsInner g (coord a c) f → beyond i h b ≡ beyond a g c → b ≡ c) p
     (λ q l m r. one_giver i h g b c e f (omega arith) l m r)
 
-ascending_right : (place : Box → ℕ) (xs ys : List Box) → IsAscending place (xs ++ ys) → IsAscending place ys
-ascending_right place [] ys h = h
-ascending_right place (x ∷ xs) ys h = ascending_right place xs ys h.1
-
 pushed_entry : {A : Type 0} (w : Way) (xs : List A) → pushed (at_entry w (map pop xs)) ≡ []
 pushed_entry entry xs = pushed_pops xs
 pushed_entry exit xs = refl
@@ -146,10 +100,12 @@ pushed_exit exit xs = pushed_pushes xs
 pushed_exit wall xs = refl
 
 module _ (A : Type 0) (same : A → A → Bool) (decides : Decides A same) (splits_of : A → ℕ) (receiver_of : A → Box) (items : ℕ → Box → Axis → Side → List A) (named : IsNamed A same splits_of receiver_of items) (dir : Direction) (axis : ℕ → Axis) (is_cell : ℕ → Bool) (splits k : ℕ) (below : k < 6) where
-  -- what a visit gives on the lane
+  -- what a cell gives on the lane when it is left
+  abbrev gift : ℕ → Box → Faces → List A
+  gift m b io = (let f = face_of b k below in at_exit (io f.0 f.1) (items m b f.0 f.1))
+
   abbrev gifts : Visit → List A
-  gifts (enter m b io) = []
-  gifts (leave m b io) = (let f = face_of b k below in at_exit (io f.0 f.1) (items m b f.0 f.1))
+  gifts = left_with A dir axis is_cell splits gift
 
   gifts_are : (v : Visit) → pushed (on_lane k (passings A items v)) ≡ gifts v
   gifts_are (enter m b io) =
@@ -182,7 +138,7 @@ module _ (A : Type 0) (same : A → A → Bool) (decides : Decides A same) (spli
       (same_axes f.axis_of g.axis_of (same_number (number f.axis_of) (number g.axis_of) (coord f.axis_of b + size f.side_of) (coord g.axis_of c + size g.side_of) (f.on ∙ sym g.on)))
       (f.on ∙ sym g.on) f.inner g.inner (sym f.to ∙ g.to)
 
-  giver : (x : A) (m : ℕ) (b : Box) (io : Faces) → IsRightCell dir axis is_cell splits m b io → IsIn x (gifts (leave m b io)) → Giver x m b
+  giver : (x : A) (m : ℕ) (b : Box) (io : Faces) → IsRightCell dir axis is_cell splits m b io → IsIn x (gift m b io) → Giver x m b
   giver x m b io r h =
       let f = face_of b k below in
       by_way f.0 f.1 f.2 (io f.0 f.1) (r.ways f.0 f.1) h
@@ -192,54 +148,21 @@ module _ (A : Type 0) (same : A → A → Bool) (decides : Decides A same) (spli
       by_way i g e exit f h = record { axis_of = i; side_of = g; bound_of = extent axis (splits - m) m i; on = e; inner = f.0; level = named.level m b i g x h; to = named.receiver m b i g x h }
       by_way i g e wall f h = absurd h
 
-  record Found (x : A) (vs : List Visit) : Type 0 where
-    pub m : ℕ
-    pub b : Box
-    pub gives : Giver x m b
-    pub there : IsIn b (flat_map (left_at m) vs)
-
-  found : (x : A) (vs : List Visit) → AllByRecursion (IsRightVisit dir axis is_cell splits) vs → IsIn x (flat_map gifts vs) → Found x vs
-  found x [] r h = absurd h
-  found x (enter m b io ∷ vs) r h = (let f = found x vs r.1 h in record { m = f.m; b = f.b; gives = f.gives; there = f.there })
-  found x (leave m b io ∷ vs) r h =
-      ⊎_elim
-      (λ g. record { m = m; b = b; gives = giver x m b io r.0 g; there = rw (eq-eqb m m refl) (inl refl) })
-      (λ g. (let f = found x vs r.1 g in record { m = f.m; b = f.b; gives = f.gives; there = in_right (λ z. 0) f.b (left_at f.m (leave m b io)) (flat_map (left_at f.m) vs) f.there }))
-      (in_either x (gifts (leave m b io)) (flat_map gifts vs) h)
-
-  abbrev Ascends : List Visit → Type 0
-  Ascends vs = (j : ℕ) → is_cell j ≡ true → j ≤ splits → IsAscending (rank dir axis (splits - j) j) (flat_map (left_at j) vs)
+  tells : TellsCell A dir axis is_cell splits gift
+  tells x m b io n c jo r s h g =
+      let f = giver x m b io r h in
+      let k = giver x n c jo s g in
+      (sym f.level ∙ k.level, one x m n b c f k)
 
   distinct_exit : (w : Way) (m : ℕ) (b : Box) (i : Axis) (h : Side) → AreDistinct same (at_exit w (items m b i h))
   distinct_exit entry m b i h = tt
   distinct_exit exit m b i h = named.distinct m b i h
   distinct_exit wall m b i h = tt
 
-  not_again : (x : A) (m : ℕ) (b : Box) (io : Faces) (vs : List Visit) → IsRightCell dir axis is_cell splits m b io → AllByRecursion (IsRightVisit dir axis is_cell splits) vs → Ascends (leave m b io ∷ vs) → IsIn x (gifts (leave m b io)) → IsIn x (flat_map gifts vs) → ⊥
-  not_again x m b io vs r rs up h g =
-      let f = found x vs rs g in
-      let first_one = giver x m b io r h in
-      let at_level : f.m ≡ m = sym f.gives.level ∙ first_one.level in
-      let at_box : b ≡ f.b = one x m f.m b f.b first_one f.gives in
-      let there = rw (at_level, ← at_box) at f.there in
-      let order = rw (eq-eqb m m refl) at (up m r.cell r.level) in
-      let before = each_in (rank dir axis (splits - m) m) (λ y. rank dir axis (splits - m) m b < rank dir axis (splits - m) m y) b (flat_map (left_at m) vs) order.0 there in
-      omega arith
-
-  pub gifts_distinct : (vs : List Visit) → AllByRecursion (IsRightVisit dir axis is_cell splits) vs → Ascends vs → AreDistinct same (flat_map gifts vs)
-  gifts_distinct [] r up = tt
-  gifts_distinct (enter m b io ∷ vs) r up = gifts_distinct vs r.1 (λ j c l. up j c l)
-  gifts_distinct (leave m b io ∷ vs) r up =
-      let f = face_of b k below in
-      distinct_append A same decides.reflexive decides.exact (gifts (leave m b io)) (flat_map gifts vs)
-      (distinct_exit (io f.0 f.1) m b f.0 f.1)
-      (gifts_distinct vs r.1 (λ j c l. ascending_right (rank dir axis (splits - j) j) (left_at j (leave m b io)) (flat_map (left_at j) vs) (up j c l)))
-      (λ x h g. not_again x m b io vs r.0 r.1 up h g)
-
   pub given_once : AreDistinct same (pushed (on_lane k (events A items dir axis is_cell splits root walls)))
   given_once =
       rw (all_gifts (visits dir axis is_cell splits root walls))
-      (gifts_distinct (visits dir axis is_cell splits root walls) (ways_follow_the_order dir axis is_cell splits) (λ j c l. (each_cell_once dir axis is_cell splits j c l).1))
+      (leaves_distinct A dir axis is_cell splits gift tells same decides (λ m b io r. (let f = face_of b k below in distinct_exit (io f.0 f.1) m b f.0 f.1)))
 
 -- from a whole walk to each of its moments
 module _ (A : Type 0) (same : A → A → Bool) (decides : Decides A same) where

@@ -11,7 +11,8 @@ use Rattle.stack_law.specs.MomentLaws.{CornerLanesHoldTheRest}
 use Rattle.stack_law.specs.Domain.{root}
 use Rattle.stack_law.proofs.Ways.{ways_follow_the_order}
 use Rattle.stack_law.proofs.Corners.{items_of, visits_same, no_more_corners, corners_pass_along_lanes}
-use Rattle.stack_law.proofs.Given.{in_either, apart_from, not_in, given_once, at_each_moment}
+use Rattle.stack_law.proofs.Given.{given_once, at_each_moment}
+use Rattle.stack_law.proofs.Distinct.{in_either, apart_from, not_in}
 
 -- both parts of a test hold
 pub and_true : (a b : Bool) → (a && b) ≡ true → (a ≡ true) × (b ≡ true)
@@ -86,11 +87,11 @@ same_corner_exact c d h =
     let r = same_side_exact c.s2 d.s2 g.1 in
     λ i. record { s0 = p i; s1 = q i; s2 = r i }
 
-corners_distinct : AreDistinct same_corner all_corners
+pub corners_distinct : AreDistinct same_corner all_corners
 corners_distinct = (refl, (refl, (refl, (refl, (refl, (refl, (refl, (refl, tt))))))))
 
 module _ (A : Type 0) (same : A → A → Bool) (same_self : (x : A) → same x x ≡ true) (exact : (x y : A) → same x y ≡ true → x ≡ y) (t : Corner → Bool) (f : Corner → A) (injective : (c d : Corner) → f c ≡ f d → c ≡ d) where
-  one_at : (x : A) (d : Corner) (b : Bool) → IsIn x (if b then f d ∷ [] else []) → x ≡ f d
+  pub one_at : (x : A) (d : Corner) (b : Bool) → IsIn x (if b then f d ∷ [] else []) → x ≡ f d
   one_at x d true (inl e) = e
   one_at x d true (inr h) = absurd h
   one_at x d false h = absurd h

@@ -84,7 +84,7 @@ module _ (dir : Direction) (axis : ℕ → Axis) (n m : ℕ) (visited : Box → 
   none_when_last : IsLastVisited place bound visited (vertex b c) b → (i : Axis) (h : Side) → leads i h ≡ false
   none_when_last last i h = false_if (leads i h) (λ t. (let f = tells i h t in let l = f.2.later in let k = last (beyond i h b) f.2.inside f.2.touching f.2.to in omega arith))
 
-  nowhere_when_last : IsLastVisited place bound visited (vertex b c) b → leads_nowhere place bound visited b c ≡ true
+  pub nowhere_when_last : IsLastVisited place bound visited (vertex b c) b → leads_nowhere place bound visited b c ≡ true
   nowhere_when_last last = nowhere_told place bound visited b c inside (λ i h k. (let l = k.later in let f = candidate_later place bound visited b c inside i h k in let q = last (beyond i h b) k.inside (touching_beyond i h k) k.visited_there in omega arith))
     where
       touching_beyond : (i : Axis) (h : Side) → IsCandidate place bound visited (vertex b c) b i h → Touches (vertex b c) (beyond i h b)

@@ -1,14 +1,14 @@
 -- How many vertices a walk gives along its lanes and to its output.
-use Rattle.std.specs.Prelude.{◌≡◌, ℕ, ◌+◌, ◌-◌, ◌≤◌, Bool, true, if◌then◌else◌, List, [], ◌∷◌, flat_map}
+use Rattle.std.specs.Prelude.{◌≡◌, ℕ, ◌+◌, ◌-◌, ◌≤◌, ◌==◌, ◌&&◌, nat_le, length, Bool, true, if◌then◌else◌, List, [], ◌∷◌, flat_map}
 use Rattle.std.specs.List.{count_by}
 use Rattle.stack_law.specs.Boxes.{Axis, Box, Direction}
 use Rattle.stack_law.specs.Domain.{root}
 use Rattle.stack_law.specs.Visits.{Visit, enter, leave, visits, walls}
 use Rattle.stack_law.specs.Order.{IsInDomain, extent}
 use Rattle.stack_law.specs.Stack.{Step, Event, push, pop, AreDistinct}
-use Rattle.stack_law.specs.Once.{IsIn}
+use Rattle.stack_law.specs.Once.{IsIn, left_at}
 use Rattle.stack_law.specs.Corners.{Corner, all_corners, vertex, by_corners}
-use Rattle.stack_law.specs.Moments.{Passing, passing}
+use Rattle.stack_law.specs.Moments.{Passing, passing, same_box}
 use Rattle.stack_law.specs.Handing.{has_kept_corner, goes_on, came_from, KeptUnbroken}
 use Rattle.stack_law.specs.Streams.{given_out}
 
@@ -45,3 +45,28 @@ EachKeptCornerIsGiven = (counted : ℕ → Box → Bool) (dir : Direction) (axis
     count_by (λ (p : Passing). counted p.splits p.vertex) (all_given (flat_map (lane_passings dir axis splits visited kept) (visits dir axis is_cell splits root walls)))
     + count_by (λ (k : Kept). counted k.splits k.vertex) (flat_map (given_out Kept kept_vertex dir axis splits visited kept) (visits dir axis is_cell splits root walls))
     ≡ count_by (λ (k : Kept). counted k.splits k.vertex) (flat_map (kept_corners dir axis splits visited kept) (visits dir axis is_cell splits root walls))
+
+abbrev pub same_kept : Kept → Kept → Bool
+same_kept k l = (k.splits == l.splits) && same_box k.vertex l.vertex
+
+-- whether a vertex is a corner of a box, as a test
+abbrev pub is_end : ℕ → ℕ → Bool
+is_end x v = nat_le x v && nat_le v (x + 1)
+
+abbrev pub is_corner_of : Box → Box → Bool
+is_corner_of v b = is_end b.x0 v.x0 && (is_end b.x1 v.x1 && is_end b.x2 v.x2)
+
+-- the run of a vertex: the visited cells that touch it, in the order in which the walk leaves them
+abbrev pub run_of : Direction → (ℕ → Axis) → (ℕ → Bool) → ℕ → (ℕ → Box → Bool) → ℕ → Box → List Box
+run_of dir axis is_cell splits visited m v = flat_map (λ b. if visited m b && is_corner_of v b then b ∷ [] else []) (flat_map (left_at m) (visits dir axis is_cell splits root walls))
+
+-- Each kept vertex that a visited cell touches goes to the output once.
+abbrev pub EachVertexEndsOnce : Type 0
+EachVertexEndsOnce = (dir : Direction) (axis : ℕ → Axis) (is_cell : ℕ → Bool) (splits : ℕ) (visited kept : ℕ → Box → Bool) → KeptUnbroken dir axis splits visited kept is_cell →
+    AreDistinct same_kept (flat_map (given_out Kept kept_vertex dir axis splits visited kept) (visits dir axis is_cell splits root walls))
+    × ((m : ℕ) (b : Box) (c : Corner) → is_cell m ≡ true → m ≤ splits → IsInDomain (extent axis (splits - m) m) b → has_kept_corner dir axis splits visited kept m b c ≡ true → IsIn (kept_vertex m (vertex b c)) (flat_map (given_out Kept kept_vertex dir axis splits visited kept) (visits dir axis is_cell splits root walls)))
+
+-- Each kept vertex is given along the lanes once less than its run is long. So all that is given is the sum over the vertices of run length less one.
+abbrev pub GivenOnceLessThanTheRun : Type 0
+GivenOnceLessThanTheRun = (dir : Direction) (axis : ℕ → Axis) (is_cell : ℕ → Bool) (splits : ℕ) (visited kept : ℕ → Box → Bool) → KeptUnbroken dir axis splits visited kept is_cell → (m : ℕ) (v : Box) → is_cell m ≡ true → m ≤ splits → kept m v ≡ true →
+    count_by (λ (p : Passing). (p.splits == m) && same_box p.vertex v) (all_given (flat_map (lane_passings dir axis splits visited kept) (visits dir axis is_cell splits root walls))) ≡ length (run_of dir axis is_cell splits visited m v) - 1
