@@ -75,10 +75,10 @@ same_side_exact low high e = absurd (cc)
 same_side_exact high low e = absurd (cc)
 same_side_exact high high e = refl
 
-same_corner_self : (c : Corner) → same_corner c c ≡ true
+pub same_corner_self : (c : Corner) → same_corner c c ≡ true
 same_corner_self c = rw (same_side_self c.s0, same_side_self c.s1, same_side_self c.s2) refl
 
-same_corner_exact : (c d : Corner) → same_corner c d ≡ true → c ≡ d
+pub same_corner_exact : (c d : Corner) → same_corner c d ≡ true → c ≡ d
 same_corner_exact c d h =
     let f = and_true (same_side c.s0 d.s0) _ h in
     let g = and_true (same_side c.s1 d.s1) _ f.1 in
