@@ -115,11 +115,11 @@ module _ (dir : Direction) (axis : ℕ → Axis) (is_cell : ℕ → Bool) (split
   abbrev out : Visit → List Kept
   out = given_out Kept kept_vertex dir axis splits visited kept
 
-  abbrev gift : ℕ → Box → Faces → List Kept
+  abbrev pub gift : ℕ → Box → Faces → List Kept
   gift m b io = flat_map (λ c. if ends_at dir axis splits visited kept m b c then kept_vertex m (vertex b c) ∷ [] else []) all_corners
 
   -- what is in a gift
-  record Ended (x : Kept) (m : ℕ) (b : Box) : Type 0 where
+  pub record Ended (x : Kept) (m : ℕ) (b : Box) : Type 0 where
     pub at_corner : Corner
     pub is : x ≡ kept_vertex m (vertex b at_corner)
     pub ends : ends_at dir axis splits visited kept m b at_corner ≡ true
@@ -129,7 +129,7 @@ module _ (dir : Direction) (axis : ℕ → Axis) (is_cell : ℕ → Bool) (split
   one_ended x m b c true e (inr g) = absurd g
   one_ended x m b c false e g = absurd g
 
-  ended : (x : Kept) (m : ℕ) (b : Box) (io : Faces) → IsIn x (gift m b io) → Ended x m b
+  pub ended : (x : Kept) (m : ℕ) (b : Box) (io : Faces) → IsIn x (gift m b io) → Ended x m b
   ended x m b io h = (let f = in_some (λ c. if ends_at dir axis splits visited kept m b c then kept_vertex m (vertex b c) ∷ [] else []) x all_corners h in one_ended x m b f.0 (ends_at dir axis splits visited kept m b f.0) refl f.2)
 
   one_cell : (m : ℕ) (b c : Box) (p q : Corner) → is_cell m ≡ true → m ≤ splits → IsInDomain (extent axis (splits - m) m) b → IsInDomain (extent axis (splits - m) m) c → vertex b p ≡ vertex c q → ends_at dir axis splits visited kept m b p ≡ true → ends_at dir axis splits visited kept m c q ≡ true → b ≡ c

@@ -24,13 +24,13 @@ use Rattle.stack_law.proofs.Streams.{output_turned_is_input}
 
 -- what happens at kept corners happens at visited cells
 module _ (dir : Direction) (axis : ℕ → Axis) (splits : ℕ) (visited kept : ℕ → Box → Bool) where
-  corners_quiet : HappensAtVisited (Event Passing) (by_corners Passing passing (goes_on dir axis splits visited kept) (came_from dir axis splits visited kept)) visited
+  pub corners_quiet : HappensAtVisited (Event Passing) (by_corners Passing passing (goes_on dir axis splits visited kept) (came_from dir axis splits visited kept)) visited
   corners_quiet = record {
     enters = λ m b io e. no_flat (λ c. over_faces (taken_at Passing passing (goes_on dir axis splits visited kept) (came_from dir axis splits visited kept) m b c)) (λ c. rw e refl) (reverse all_corners);
     leaves = λ m b io e. no_flat (λ c. over_faces (given_at Passing passing (goes_on dir axis splits visited kept) (came_from dir axis splits visited kept) m b c)) (λ c. rw e refl) all_corners;
   }
 
-  given_quiet : (A : Type 0) (name : ℕ → Box → A) → HappensAtVisited A (given_out A name dir axis splits visited kept) visited
+  pub given_quiet : (A : Type 0) (name : ℕ → Box → A) → HappensAtVisited A (given_out A name dir axis splits visited kept) visited
   given_quiet A name = record { enters = λ m b io e. refl; leaves = λ m b io e. no_flat (λ c. if ends_at dir axis splits visited kept m b c then name m (vertex b c) ∷ [] else []) (λ c. rw e refl) all_corners }
 
   taken_quiet : (A : Type 0) (name : ℕ → Box → A) → HappensAtVisited A (taken_in A name dir axis splits visited kept) visited

@@ -24,7 +24,7 @@ use Rattle.stack_law.proofs.Counts.{count-append, each_kept_corner_is_given}
 use Rattle.stack_law.proofs.Ends.{kept_decided, corner_at, is_a_corner, outputs_distinct, ends_once}
 
 -- one item more
-count-cons : {A : Type 0} (p : A → Bool) (x : A) (xs : List A) → count_by p (x ∷ xs) ≡ cond (p x) 1 0 + count_by p xs
+pub count-cons : {A : Type 0} (p : A → Bool) (x : A) (xs : List A) → count_by p (x ∷ xs) ≡ cond (p x) 1 0 + count_by p xs
 count-cons p x xs = count-append p (x ∷ []) xs ∙ ap (λ n. n + count_by p xs) (let e : 0 + cond (p x) 1 0 ≡ cond (p x) 1 0 = omega arith in e)
 
 -- counts in distinct lists

@@ -1,6 +1,6 @@
 -- How many vertices a walk gives along its lanes and to its output.
 use Rattle.std.specs.Prelude.{◌≡◌, ℕ, ◌+◌, ◌-◌, ◌≤◌, ◌==◌, ◌&&◌, nat_le, length, Bool, true, if◌then◌else◌, List, [], ◌∷◌, flat_map}
-use Rattle.std.specs.List.{count_by}
+use Rattle.std.specs.List.{count_by, sum_by}
 use Rattle.stack_law.specs.Boxes.{Axis, Box, Direction}
 use Rattle.stack_law.specs.Domain.{root}
 use Rattle.stack_law.specs.Visits.{Visit, enter, leave, visits, walls}
@@ -11,6 +11,8 @@ use Rattle.stack_law.specs.Corners.{Corner, all_corners, vertex, by_corners}
 use Rattle.stack_law.specs.Moments.{Passing, passing, same_box}
 use Rattle.stack_law.specs.Handing.{has_kept_corner, goes_on, came_from, KeptUnbroken}
 use Rattle.stack_law.specs.Streams.{given_out}
+use Rattle.stack_law.specs.Walk.{walk, ClosedAreEmpty}
+use Rattle.stack_law.specs.Instances.{lane_events}
 
 -- a vertex of the level that has `splits` splits left
 pub record Kept : Type 0 where
@@ -70,3 +72,8 @@ EachVertexEndsOnce = (dir : Direction) (axis : ℕ → Axis) (is_cell : ℕ → 
 abbrev pub GivenOnceLessThanTheRun : Type 0
 GivenOnceLessThanTheRun = (dir : Direction) (axis : ℕ → Axis) (is_cell : ℕ → Bool) (splits : ℕ) (visited kept : ℕ → Box → Bool) → KeptUnbroken dir axis splits visited kept is_cell → (m : ℕ) (v : Box) → is_cell m ≡ true → m ≤ splits → kept m v ≡ true →
     count_by (λ (p : Passing). (p.splits == m) && same_box p.vertex v) (all_given (flat_map (lane_passings dir axis splits visited kept) (visits dir axis is_cell splits root walls))) ≡ length (run_of dir axis is_cell splits visited m v) - 1
+
+-- All that is given along the lanes is as much as the sum, over the vertices that go to the output, of run length less one.
+abbrev pub PushesAreRunsLessOne : Type 0
+PushesAreRunsLessOne = (dir : Direction) (axis : ℕ → Axis) (is_cell : ℕ → Bool) (splits : ℕ) (visited kept : ℕ → Box → Bool) → KeptUnbroken dir axis splits visited kept is_cell → (is_open : ℕ → Box → Bool) → ClosedAreEmpty axis is_cell splits visited is_open →
+    length (all_given (lane_events dir axis is_cell splits visited is_open kept)) ≡ sum_by (λ (k : Kept). length (run_of dir axis is_cell splits visited k.splits k.vertex) - 1) (flat_map (given_out Kept kept_vertex dir axis splits visited kept) (walk dir axis is_cell visited is_open splits root walls))
