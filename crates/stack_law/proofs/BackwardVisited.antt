@@ -1,5 +1,5 @@
 -- The backward walk of some cells.
-use Rattle.std.proofs.Common.{◌≡◌, ℕ, zero, suc, ◌+◌, ◌%◌, ◌==◌, Bool, true, false, not, ◌&&◌, if◌then◌else◌, List, [], ◌∷◌, ◌++◌, map, reverse, refl, sym, ap, ◌∙◌}
+use Rattle.std.proofs.Common.{◌≡◌, ℕ, zero, suc, Bool, true, false, not, ◌&&◌, if◌then◌else◌, List, [], ◌∷◌, refl, sym, ap, ◌∙◌}
 use Rattle.stack_law.specs.Boxes.{Direction, Axis, Column, Box, turned_round, lower, middle, upper, column, ascends, other_coords}
 use Rattle.stack_law.specs.Visits.{Faces, Visit, enter, leave, handed_down, in_order, walls}
 use Rattle.stack_law.specs.Children.{turned_faces, turned_visit}

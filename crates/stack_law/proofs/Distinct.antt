@@ -1,5 +1,5 @@
 -- Distinct lists, and where their items are.
-use Rattle.std.proofs.Common.{◌≡◌, ℕ, Bool, true, false, ◌||◌, List, [], ◌∷◌, ◌++◌, refl, arith, ⊎_elim, inl, inr, ◌⊎◌}
+use Rattle.std.proofs.Common.{◌≡◌, Bool, true, false, ◌||◌, List, [], ◌∷◌, ◌++◌, refl, ⊎_elim, inl, inr, ◌⊎◌}
 use Rattle.stack_law.specs.Once.{IsIn}
 use Rattle.stack_law.specs.Stack.{among, AreDistinct}
 use Rattle.stack_law.proofs.Chains.{in_left}

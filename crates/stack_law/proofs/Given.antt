@@ -1,23 +1,19 @@
 -- In a walk nothing is given twice on one lane.
-use Rattle.std.proofs.Common.{◌≡◌, ℕ, ◌+◌, ◌*◌, ◌-◌, ◌%◌, ◌==◌, ◌<◌, ◌≤◌, Bool, true, false, cond, Option, ◌||◌, List, [], ◌∷◌, ◌++◌, map, flat_map, refl, sym, ap, ◌∙◌, subst, arith, Some, None, ⊎_elim, inl, inr, ◌⊎◌, eq-eqb, eqb-true}
-use Rattle.std.specs.List.{AllByRecursion}
+use Rattle.std.proofs.Common.{◌≡◌, ℕ, ◌+◌, ◌*◌, ◌-◌, ◌%◌, ◌==◌, ◌<◌, Bool, true, false, cond, Option, List, [], ◌∷◌, ◌++◌, map, flat_map, refl, sym, ap, ◌∙◌, subst, arith, Some, None, ⊎_elim, eqb-true}
 use Rattle.std.proofs.lemmas.Bool.{cases_lt}
 use Rattle.stack_law.specs.Boxes.{Axis, Side, Box, Direction, first, second, third, low, high, size, number, coord, beyond, lane}
 use Rattle.stack_law.specs.Visits.{Way, Faces, Visit, entry, exit, wall, enter, leave, visits, walls}
-use Rattle.stack_law.specs.Stack.{Step, Event, push, pop, run, on_lane, run_all, stepped, replaced, pushed, among, AreDistinct}
+use Rattle.stack_law.specs.Stack.{Step, Event, push, pop, run, on_lane, run_all, stepped, replaced, pushed, AreDistinct}
 use Rattle.stack_law.specs.Passings.{at_entry, at_exit, passings}
-use Rattle.stack_law.specs.Order.{IsInner, rank, extent, WayIs, IsRightCell, IsRightVisit}
-use Rattle.stack_law.specs.Once.{IsAscending, IsIn, left_at}
-use Rattle.stack_law.specs.Moments.{Decides, IsNamed, HoldsTheRest}
-use Rattle.stack_law.specs.MomentLaws.{LanesHoldTheRest}
+use Rattle.stack_law.specs.Order.{IsInner, rank, extent, WayIs, IsRightCell}
+use Rattle.stack_law.specs.Once.{IsIn}
+use Rattle.stack_law.specs.Moments.{TellsApart, IsNamed, HoldsTheRest}
+use Rattle.stack_law.specs.LaneLaws.{LanesHoldTheRest, events}
 use Rattle.stack_law.specs.Domain.{root}
-use Rattle.stack_law.specs.LaneLaws.{events}
 use Rattle.stack_law.proofs.Seen.{on_lane-append, enter_lane, leave_lane}
-use Rattle.stack_law.proofs.Chains.{each_in, in_left, in_right}
-use Rattle.stack_law.proofs.Corners.{there_and_back, face_of}
+use Rattle.stack_law.proofs.Across.{there_and_back, face_of}
 use Rattle.stack_law.proofs.Together.{no_more, lanes_are_stacks}
 use Rattle.stack_law.proofs.Held.{stacks_hold_what_was_not_taken}
-use Rattle.stack_law.proofs.Ways.{ways_follow_the_order}
 use Rattle.stack_law.proofs.Moments.{no_pop_fails}
 use Rattle.stack_law.proofs.Distinct.{distinct_left}
 use Rattle.stack_law.proofs.Leaves.{left_with, TellsCell, leaves_distinct}
@@ -99,7 +95,7 @@ pushed_exit entry xs = refl
 pushed_exit exit xs = pushed_pushes xs
 pushed_exit wall xs = refl
 
-module _ (A : Type 0) (same : A → A → Bool) (decides : Decides A same) (splits_of : A → ℕ) (receiver_of : A → Box) (items : ℕ → Box → Axis → Side → List A) (named : IsNamed A same splits_of receiver_of items) (dir : Direction) (axis : ℕ → Axis) (is_cell : ℕ → Bool) (splits k : ℕ) (below : k < 6) where
+module _ (A : Type 0) (same : A → A → Bool) (decides : TellsApart A same) (splits_of : A → ℕ) (receiver_of : A → Box) (items : ℕ → Box → Axis → Side → List A) (named : IsNamed A same splits_of receiver_of items) (dir : Direction) (axis : ℕ → Axis) (is_cell : ℕ → Bool) (splits k : ℕ) (below : k < 6) where
   -- what a cell gives on the lane when it is left
   abbrev gift : ℕ → Box → Faces → List A
   gift m b io = (let f = face_of b k below in at_exit (io f.0 f.1) (items m b f.0 f.1))
@@ -165,7 +161,7 @@ module _ (A : Type 0) (same : A → A → Bool) (decides : Decides A same) (spli
       (leaves_distinct A dir axis is_cell splits gift tells same decides (λ m b io r. (let f = face_of b k below in distinct_exit (io f.0 f.1) m b f.0 f.1)))
 
 -- from a whole walk to each of its moments
-module _ (A : Type 0) (same : A → A → Bool) (decides : Decides A same) where
+module _ (A : Type 0) (same : A → A → Bool) (decides : TellsApart A same) where
   pub at_each_moment : (es done todo : List (Event A)) → ((k : ℕ) → AreDistinct same (pushed (on_lane k es))) → run_all same (λ k. []) es ≡ Some (λ k. []) → es ≡ done ++ todo → HoldsTheRest A same done
   at_each_moment es done todo once whole e =
       let now = no_pop_fails A same (λ k. []) (λ k. []) done todo (rw e at whole) in

@@ -1,5 +1,5 @@
 -- What cells give when they are left is given once, where an item tells the cell that gives it.
-use Rattle.std.proofs.Common.{◌≡◌, ℕ, ◌-◌, ◌==◌, ◌<◌, ◌≤◌, Bool, true, List, [], ◌∷◌, ◌++◌, flat_map, refl, sym, arith, ⊎_elim, inl, inr, ◌⊎◌, eq-eqb}
+use Rattle.std.proofs.Common.{◌≡◌, ℕ, ◌-◌, ◌<◌, ◌≤◌, Bool, true, List, [], ◌∷◌, ◌++◌, flat_map, refl, arith, ⊎_elim, inl, eq-eqb}
 use Rattle.std.specs.List.{AllByRecursion}
 use Rattle.stack_law.specs.Boxes.{Axis, Box, Direction}
 use Rattle.stack_law.specs.Domain.{root}
@@ -7,7 +7,7 @@ use Rattle.stack_law.specs.Visits.{Faces, Visit, enter, leave, visits, walls}
 use Rattle.stack_law.specs.Order.{rank, IsRightCell, IsRightVisit}
 use Rattle.stack_law.specs.Once.{IsAscending, IsIn, left_at}
 use Rattle.stack_law.specs.Stack.{AreDistinct}
-use Rattle.stack_law.specs.Moments.{Decides}
+use Rattle.stack_law.specs.Moments.{TellsApart}
 use Rattle.stack_law.proofs.Chains.{each_in, in_right}
 use Rattle.stack_law.proofs.Distinct.{in_either, distinct_append}
 use Rattle.stack_law.proofs.Ways.{ways_follow_the_order}
@@ -59,7 +59,7 @@ module _ (A : Type 0) (dir : Direction) (axis : ℕ → Axis) (is_cell : ℕ →
         let before = each_in (rank dir axis (splits - m) m) (λ y. rank dir axis (splits - m) m b < rank dir axis (splits - m) m y) b (flat_map (left_at m) vs) order.0 there in
         omega arith
 
-    module _ (same : A → A → Bool) (decides : Decides A same) (distinct : (m : ℕ) (b : Box) (io : Faces) → Right m b io → AreDistinct same (gift m b io)) where
+    module _ (same : A → A → Bool) (decides : TellsApart A same) (distinct : (m : ℕ) (b : Box) (io : Faces) → Right m b io → AreDistinct same (gift m b io)) where
       all_distinct : (vs : List Visit) → AllByRecursion (IsRightVisit dir axis is_cell splits) vs → Ascends vs → AreDistinct same (flat_map left_with vs)
       all_distinct [] r up = tt
       all_distinct (enter m b io ∷ vs) r up = all_distinct vs r.1 (λ j c l. up j c l)

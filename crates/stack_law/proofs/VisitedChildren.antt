@@ -1,8 +1,8 @@
 -- The children of a cell in turn, in a walk of some cells.
-use Rattle.std.proofs.Common.{◌≡◌, ℕ, suc, ◌+◌, ◌-◌, ◌%◌, ◌==◌, Bool, true, false, not, ◌&&◌, if◌then◌else◌, List, [], ◌∷◌, ◌++◌, refl, ap, ◌∙◌, append-nil, arith, eq-eqb}
-use Rattle.stack_law.specs.Boxes.{Axis, Column, Box, forward, first, second, third, lower, middle, upper, column, ascends}
-use Rattle.stack_law.specs.Visits.{Faces, Visit, enter, leave, handed_down, in_order}
-use Rattle.stack_law.specs.Children.{Place, in_turn, part, part_faces, child_two, child_three}
+use Rattle.std.proofs.Common.{◌≡◌, ℕ, suc, ◌%◌, Bool, true, false, not, if◌then◌else◌, List, [], ◌∷◌, ◌++◌, refl, ap, ◌∙◌, append-nil, arith, eq-eqb}
+use Rattle.stack_law.specs.Boxes.{Axis, Box, forward, first, second, third, column, ascends}
+use Rattle.stack_law.specs.Visits.{Faces, Visit, enter, leave, handed_down}
+use Rattle.stack_law.specs.Children.{in_turn, part, part_faces, child_two, child_three}
 use Rattle.stack_law.specs.Domain.{axis_in, cell_in}
 use Rattle.stack_law.specs.Walk.{walk}
 use Rattle.stack_law.specs.WalkLaws.{VisitedChildrenInTurn}

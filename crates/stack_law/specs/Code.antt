@@ -1,5 +1,5 @@
 -- What the code's axes, sides, directions, parts, ways and places stand for.
-use Rattle.std.specs.Prelude.{ℕ, ◌+◌, ◌*◌, ◌^◌, ◌<◌}
+use Rattle.std.specs.Prelude.{◌^◌, ◌<◌}
 use Rattle.stack_law.specs.declared.geometry.Axis.{Axis}
 use Rattle.stack_law.specs.declared.geometry.Axis.TheVariants.{First, Second, Third}
 use Rattle.stack_law.specs.declared.geometry.Side.{Side}
@@ -12,10 +12,9 @@ use Rattle.stack_law.specs.declared.geometry.Way.{Way}
 use Rattle.stack_law.specs.declared.geometry.Way.TheVariants.{Entry, Exit, Wall}
 use Rattle.stack_law.specs.declared.geometry.Place.{Place}
 use Rattle.stack_law.specs.Boxes.{Column, Box, first, second, third, low, high, forward, backward, lower, middle, upper, size}
-use Rattle.stack_law.specs.Boxes as boxes
 use Rattle.stack_law.specs.Visits.{entry, exit, wall}
+use Rattle.stack_law.specs.Boxes as boxes
 use Rattle.stack_law.specs.Visits as visits
-use Rattle.stack_law.specs.Corners.{Corner}
 
 abbrev pub axis_of : Axis → boxes.Axis
 axis_of First = first
@@ -42,10 +41,6 @@ way_of Wall = wall
 
 abbrev pub box_of : Place → Box
 box_of p = record { x0 = p.x0; x1 = p.x1; x2 = p.x2 }
-
--- bit i of a corner's number is its side on axis i
-abbrev pub corner_number : Corner → ℕ
-corner_number c = size c.s0 + (2 * size c.s1 + 4 * size c.s2)
 
 -- sums of the coordinates fit 32 bits
 abbrev pub IsSmall : Place → Type 0

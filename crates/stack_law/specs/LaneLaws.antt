@@ -6,6 +6,7 @@ use Rattle.stack_law.specs.Stack.{Event, Step, pushed, popped, without, AreDisti
 use Rattle.stack_law.specs.Passings.{passings}
 use Rattle.stack_law.specs.Transfer.{transfer}
 use Rattle.stack_law.specs.Domain.{root}
+use Rattle.stack_law.specs.Moments.{TellsApart, IsNamed, HoldsTheRest}
 
 abbrev pub IsReflexive : (A : Type 0) → (A → A → Bool) → Type 0
 IsReflexive A same = (x : A) → same x x ≡ true
@@ -33,3 +34,8 @@ NoPopFails A = (same : A → A → Bool) (stacks ends : ℕ → List A) (before 
 -- At each moment a stack holds the items that were given and not taken, in the order in which they were given, where no item is given twice.
 abbrev pub StacksHoldWhatWasNotTaken : Type 0 → Type 0
 StacksHoldWhatWasNotTaken A = (same : A → A → Bool) → IsReflexive A same → ((x y : A) → same x y ≡ true → x ≡ y) → (steps : List (Step A)) (stack : List A) → run same [] steps ≡ Some stack → AreDistinct same (pushed steps) → stack ≡ reverse (without same (popped steps) (pushed steps))
+
+-- At each moment of a walk each lane holds exactly what was given and not yet taken, in the order in which it was given.
+abbrev pub LanesHoldTheRest : Type 0 → Type 0
+LanesHoldTheRest A = (same : A → A → Bool) → TellsApart A same → (splits_of : A → ℕ) (receiver_of : A → Box) (items : ℕ → Box → Axis → Side → List A) → IsNamed A same splits_of receiver_of items →
+    (dir : Direction) (axis : ℕ → Axis) (is_cell : ℕ → Bool) (splits : ℕ) (done todo : List (Event A)) → events A items dir axis is_cell splits root walls ≡ done ++ todo → HoldsTheRest A same done

@@ -7,20 +7,8 @@ use Rattle.stack_law.specs.Stack.{Event, on_lane, run_all, pushed, popped, witho
 abbrev pub same_box : Box → Box → Bool
 same_box b c = (b.x0 == c.x0) && ((b.x1 == c.x1) && (b.x2 == c.x2))
 
--- what passes for a vertex to a cell; both belong to the level that has `splits` splits left
-pub record Passing : Type 0 where
-  pub splits : ℕ
-  pub vertex : Box
-  pub cell : Box
-
-abbrev pub passing : ℕ → Box → Box → Passing
-passing m v q = record { splits = m; vertex = v; cell = q }
-
-abbrev pub same_passing : Passing → Passing → Bool
-same_passing p q = (p.splits == q.splits) && (same_box p.vertex q.vertex && same_box p.cell q.cell)
-
--- the test tells items apart
-pub record Decides (A : Type 0) (same : A → A → Bool) : Type 0 where
+-- a test tells the items of a type apart
+pub record TellsApart (A : Type 0) (same : A → A → Bool) : Type 0 where
   pub reflexive : (x : A) → same x x ≡ true
   pub exact : (x y : A) → same x y ≡ true → x ≡ y
 

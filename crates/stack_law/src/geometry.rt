@@ -1,9 +1,8 @@
-// The rules of the walk as small functions: lanes, the order of a split, faces of a part, corners in their orders.
-ghost use Rattle.std.specs.Prelude.{◌≡◌, ◌+◌, ◌<◌, ◌^◌, map, reverse};
+// The rules of the walk as small functions: lanes, the order of a split, the faces of a part.
+ghost use Rattle.std.specs.Prelude.{◌≡◌, ◌+◌, ◌<◌, ◌^◌};
 ghost use Rattle.stack_law.specs.Boxes.{lane, ascends};
 ghost use Rattle.stack_law.specs.Visits.{handed_down};
-ghost use Rattle.stack_law.specs.Corners.{all_corners};
-ghost use Rattle.stack_law.specs.Code.{axis_of, side_of, direction_of, column_of, way_of, box_of, corner_number, IsSmall};
+ghost use Rattle.stack_law.specs.Code.{axis_of, side_of, direction_of, column_of, way_of, box_of, IsSmall};
 
 /// An axis of the domain; in the plane the third one is never split.
 #[derive(Clone, Copy, Debug)]
@@ -114,20 +113,6 @@ pub fn handed_down(
     }
 }
 
-/// The numbers of a cell's corners in the order in which it takes them when it is entered; bit i is the side on axis i.
-pub fn corners_taken() -> [u8; 8]
-    ensures { result ≡ map corner_number (reverse all_corners) }
-{
-    [7, 6, 5, 4, 3, 2, 1, 0]
-}
-
-/// The numbers of a cell's corners in the order in which it gives them when it is left.
-pub fn corners_given() -> [u8; 8]
-    ensures { result ≡ map corner_number all_corners }
-{
-    [0, 1, 2, 3, 4, 5, 6, 7]
-}
-
 #[cfg(test)]
 mod tests {
     use super::*;
@@ -235,11 +220,5 @@ mod tests {
                 Way::Wall
             )
         );
-    }
-
-    #[test]
-    fn corners_are_taken_from_the_last(rt: HostRuntime) {
-        assert_eq!(rt; corners_taken()[0], 7);
-        assert_eq!(rt; corners_given()[7], 7);
     }
 }

@@ -1,7 +1,6 @@
 // A walk uses its lanes as stacks, whatever its cells pass to each other.
 
-ghost use Rattle.stack_law.specs.LaneLaws.{SubtreesTakeAndLeave, LanesAreStacks, NoPopFails, StacksHoldWhatWasNotTaken};
-ghost use Rattle.stack_law.specs.MomentLaws.{LanesHoldTheRest};
+ghost use Rattle.stack_law.specs.LaneLaws.{SubtreesTakeAndLeave, LanesAreStacks, NoPopFails, StacksHoldWhatWasNotTaken, LanesHoldTheRest};
 
 /// What a subtree takes from a lane and what it leaves on it.
 pub fn subtrees_take_and_leave<T>()

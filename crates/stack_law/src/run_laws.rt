@@ -1,7 +1,6 @@
 // The cells round a vertex, one after another.
 
 ghost use Rattle.stack_law.specs.RunLaws.{RunsGoAcrossFaces, VisitedRunsGoAcrossFaces, NextIsLeastLaterNeighbour};
-ghost use Rattle.stack_law.specs.HandingLaws.{NeighboursTellTheRun, EachCornerHasOneWay};
 
 /// Round a vertex each cell but the last is followed by a face neighbour.
 pub fn runs_go_across_faces()
@@ -16,14 +15,4 @@ pub fn visited_runs_go_across_faces()
 /// The next cell round a vertex is the least of the later visited neighbours.
 pub fn next_is_least_later_neighbour()
     ensures { NextIsLeastLaterNeighbour }
-{}
-
-/// What a cell finds among its neighbours is what the run of the vertex says, in both directions.
-pub fn neighbours_tell_the_run()
-    ensures { NeighboursTellTheRun }
-{}
-
-/// Each kept corner ends at its cell or goes on across one face; it begins there or has come across one face.
-pub fn each_corner_has_one_way()
-    ensures { EachCornerHasOneWay }
 {}

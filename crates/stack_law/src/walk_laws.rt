@@ -1,6 +1,6 @@
 // The walk along the curve: its order, the faces of its boxes, its way back.
 
-ghost use Rattle.stack_law.specs.WalkLaws.{EachCellOnce, WaysFollowTheOrder, RanksAreOfDigits, RanksTellCellsApart, ChildrenInTurn, BackwardIsReversed, BackwardWalkIsReversed, WalkOfVisitedDoesAll};
+ghost use Rattle.stack_law.specs.WalkLaws.{EachCellOnce, WaysFollowTheOrder, RanksAreOfDigits, RanksTellCellsApart, ChildrenInTurn, VisitedChildrenInTurn, BackwardIsReversed, BackwardWalkIsReversed, BackwardWalkOfVisited, WalkOfVisitedDoesAll};
 
 /// Each cell of a level is entered once and left once, in the order of the ranks.
 pub fn each_cell_once()
@@ -27,6 +27,11 @@ pub fn children_in_turn()
     ensures { ChildrenInTurn }
 {}
 
+/// The same of a walk of some cells alone.
+pub fn visited_children_in_turn()
+    ensures { VisitedChildrenInTurn }
+{}
+
 /// The other way, ranks are counted from the other end.
 pub fn backward_is_reversed()
     ensures { BackwardIsReversed }
@@ -35,6 +40,11 @@ pub fn backward_is_reversed()
 /// A walk the other way is the same walk reversed, with enters and leaves exchanged.
 pub fn backward_walk_is_reversed()
     ensures { BackwardWalkIsReversed }
+{}
+
+/// The same of a walk of some cells alone.
+pub fn backward_walk_of_visited()
+    ensures { BackwardWalkOfVisited }
 {}
 
 /// A walk of the visited cells alone, below open cells alone, does what the walk of the full tree does.

@@ -1,5 +1,0 @@
-use Rattle.stack_law.proofs.Sanity.{counts_of_small_grids}
-use Rattle.stack_law.proofs.checks.counts_of_small_grids.Goals as goal
-
-pub returns : goal.returns
-returns c = counts_of_small_grids

@@ -1,5 +1,0 @@
-use Rattle.stack_law.proofs.Sanity.{nine_cells_lane_by_lane}
-use Rattle.stack_law.proofs.checks.nine_cells_lane_by_lane.Goals as goal
-
-pub returns : goal.returns
-returns c = nine_cells_lane_by_lane

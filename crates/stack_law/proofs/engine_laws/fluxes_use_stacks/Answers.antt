@@ -1,5 +1,0 @@
-use Rattle.stack_law.proofs.Fluxes.{fluxes_use_stacks}
-use Rattle.stack_law.proofs.engine_laws.fluxes_use_stacks.Goals as goal
-
-pub returns : goal.returns
-returns g c = fluxes_use_stacks _

@@ -1,5 +1,0 @@
-use Rattle.stack_law.proofs.Instances.{grids_are_closed}
-use Rattle.stack_law.proofs.engine_laws.grids_are_closed.Goals as goal
-
-pub returns : goal.returns
-returns c = grids_are_closed

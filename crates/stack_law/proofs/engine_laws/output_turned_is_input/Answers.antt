@@ -1,5 +1,0 @@
-use Rattle.stack_law.proofs.Streams.{output_turned_is_input}
-use Rattle.stack_law.proofs.engine_laws.output_turned_is_input.Goals as goal
-
-pub returns : goal.returns
-returns g c = output_turned_is_input _

@@ -1,5 +1,0 @@
-use Rattle.stack_law.proofs.Ranges.{ranges_use_stacks}
-use Rattle.stack_law.proofs.engine_laws.ranges_use_stacks.Goals as goal
-
-pub returns : goal.returns
-returns c = ranges_use_stacks

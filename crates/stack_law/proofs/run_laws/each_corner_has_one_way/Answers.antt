@@ -1,5 +1,0 @@
-use Rattle.stack_law.proofs.OneWay.{each_corner_has_one_way}
-use Rattle.stack_law.proofs.run_laws.each_corner_has_one_way.Goals as goal
-
-pub returns : goal.returns
-returns c = each_corner_has_one_way
