@@ -4,10 +4,11 @@ use Rattle.stack_law.specs.Boxes.{Axis, Side, Box, beyond}
 use Rattle.stack_law.specs.Once.{IsIn}
 use Rattle.stack_law.specs.Stack.{Event, on_lane, run_all, pushed, popped, without, AreDistinct}
 
+-- whether two boxes are the same
 abbrev pub same_box : Box → Box → Bool
 same_box b c = (b.x0 == c.x0) && ((b.x1 == c.x1) && (b.x2 == c.x2))
 
--- a test tells the items of a type apart
+-- a test that tells the items of a type apart
 pub record TellsApart (A : Type 0) (same : A → A → Bool) : Type 0 where
   pub reflexive : (x : A) → same x x ≡ true
   pub exact : (x y : A) → same x y ≡ true → x ≡ y
@@ -18,7 +19,7 @@ pub record IsNamed (A : Type 0) (same : A → A → Bool) (splits_of : A → ℕ
   pub receiver : (m : ℕ) (b : Box) (i : Axis) (h : Side) (x : A) → IsIn x (items m b i h) → receiver_of x ≡ beyond i h b
   pub distinct : (m : ℕ) (b : Box) (i : Axis) (h : Side) → AreDistinct same (items m b i h)
 
--- a lane's steps so far leave on it exactly what was given and not taken, the newest first
+-- after some events each lane holds exactly what was given on it and not taken, the newest first
 pub record HoldsTheRest (A : Type 0) (same : A → A → Bool) (done : List (Event A)) : Type 0 where
   pub now : ℕ → List A
   pub reached : run_all same (λ k. []) done ≡ Some now

@@ -6,7 +6,7 @@ use Rattle.stack_law.specs.Visits.{Faces, Visit, enter, leave, visits, walls}
 use Rattle.stack_law.specs.Order.{IsRightVisit, IsInDomain, rank, extent}
 use Rattle.stack_law.specs.Once.{IsAscending, IsIn, entered_at, left_at}
 use Rattle.stack_law.specs.Walk.{walk, HappensAtVisited, ClosedAreEmpty}
-use Rattle.stack_law.specs.Children.{Place, in_turn, child_two, child_three, turned_visit}
+use Rattle.stack_law.specs.Children.{Turn, in_turn, child_two, child_three, turned_visit}
 use Rattle.stack_law.specs.Digits.{rank_two, rank_three}
 use Rattle.stack_law.specs.Domain.{root, cell_in, axis_in}
 
@@ -35,15 +35,15 @@ BackwardWalkIsReversed = (dir : Direction) (axis : ℕ → Axis) (is_cell : ℕ 
 -- A cell is entered, then its children are walked by the digits that the curve counts, then it is left.
 abbrev pub ChildrenInTurn : Type 0
 ChildrenInTurn =
-    ((m : ℕ) (b : Box) (io : Faces) → m % 2 ≡ 0 → b.x2 ≡ 0 → (faces : Place → Place → Faces) × (visits forward (axis_in 2) (cell_in 2) (suc (suc m)) b io ≡ enter (suc (suc m)) b io ∷ (in_turn (λ s. in_turn (λ t. visits forward (axis_in 2) (cell_in 2) m (child_two b s t) (faces s t))) ++ (leave (suc (suc m)) b io ∷ []))))
-    × ((m : ℕ) (b : Box) (io : Faces) → m % 3 ≡ 0 → (faces : Place → Place → Place → Faces) × (visits forward (axis_in 3) (cell_in 3) (suc (suc (suc m))) b io ≡ enter (suc (suc (suc m))) b io ∷ (in_turn (λ s. in_turn (λ t. in_turn (λ u. visits forward (axis_in 3) (cell_in 3) m (child_three b s t u) (faces s t u)))) ++ (leave (suc (suc (suc m))) b io ∷ []))))
+    ((m : ℕ) (b : Box) (io : Faces) → m % 2 ≡ 0 → b.x2 ≡ 0 → (faces : Turn → Turn → Faces) × (visits forward (axis_in 2) (cell_in 2) (suc (suc m)) b io ≡ enter (suc (suc m)) b io ∷ (in_turn (λ s. in_turn (λ t. visits forward (axis_in 2) (cell_in 2) m (child_two b s t) (faces s t))) ++ (leave (suc (suc m)) b io ∷ []))))
+    × ((m : ℕ) (b : Box) (io : Faces) → m % 3 ≡ 0 → (faces : Turn → Turn → Turn → Faces) × (visits forward (axis_in 3) (cell_in 3) (suc (suc (suc m))) b io ≡ enter (suc (suc (suc m))) b io ∷ (in_turn (λ s. in_turn (λ t. in_turn (λ u. visits forward (axis_in 3) (cell_in 3) m (child_three b s t u) (faces s t u)))) ++ (leave (suc (suc (suc m))) b io ∷ []))))
 
 -- Of a walk of some cells: a cell is entered, then, where it is open, its children are walked by the digits that the curve counts, then it is
 -- left; a cell that is not visited is neither entered nor left.
 abbrev pub VisitedChildrenInTurn : Type 0
 VisitedChildrenInTurn =
-    ((visited is_open : ℕ → Box → Bool) (m : ℕ) (b : Box) (io : Faces) → m % 2 ≡ 0 → b.x2 ≡ 0 → (faces : Place → Place → Faces) × (walk forward (axis_in 2) (cell_in 2) visited is_open (suc (suc m)) b io ≡ (if visited (suc (suc m)) b then enter (suc (suc m)) b io ∷ [] else []) ++ ((if is_open (suc (suc m)) b then in_turn (λ s. in_turn (λ t. walk forward (axis_in 2) (cell_in 2) visited is_open m (child_two b s t) (faces s t))) else []) ++ (if visited (suc (suc m)) b then leave (suc (suc m)) b io ∷ [] else []))))
-    × ((visited is_open : ℕ → Box → Bool) (m : ℕ) (b : Box) (io : Faces) → m % 3 ≡ 0 → (faces : Place → Place → Place → Faces) × (walk forward (axis_in 3) (cell_in 3) visited is_open (suc (suc (suc m))) b io ≡ (if visited (suc (suc (suc m))) b then enter (suc (suc (suc m))) b io ∷ [] else []) ++ ((if is_open (suc (suc (suc m))) b then in_turn (λ s. in_turn (λ t. in_turn (λ u. walk forward (axis_in 3) (cell_in 3) visited is_open m (child_three b s t u) (faces s t u)))) else []) ++ (if visited (suc (suc (suc m))) b then leave (suc (suc (suc m))) b io ∷ [] else []))))
+    ((visited is_open : ℕ → Box → Bool) (m : ℕ) (b : Box) (io : Faces) → m % 2 ≡ 0 → b.x2 ≡ 0 → (faces : Turn → Turn → Faces) × (walk forward (axis_in 2) (cell_in 2) visited is_open (suc (suc m)) b io ≡ (if visited (suc (suc m)) b then enter (suc (suc m)) b io ∷ [] else []) ++ ((if is_open (suc (suc m)) b then in_turn (λ s. in_turn (λ t. walk forward (axis_in 2) (cell_in 2) visited is_open m (child_two b s t) (faces s t))) else []) ++ (if visited (suc (suc m)) b then leave (suc (suc m)) b io ∷ [] else []))))
+    × ((visited is_open : ℕ → Box → Bool) (m : ℕ) (b : Box) (io : Faces) → m % 3 ≡ 0 → (faces : Turn → Turn → Turn → Faces) × (walk forward (axis_in 3) (cell_in 3) visited is_open (suc (suc (suc m))) b io ≡ (if visited (suc (suc (suc m))) b then enter (suc (suc (suc m))) b io ∷ [] else []) ++ ((if is_open (suc (suc (suc m))) b then in_turn (λ s. in_turn (λ t. in_turn (λ u. walk forward (axis_in 3) (cell_in 3) visited is_open m (child_three b s t u) (faces s t u)))) else []) ++ (if visited (suc (suc (suc m))) b then leave (suc (suc (suc m))) b io ∷ [] else []))))
 
 -- A walk of some cells the other way is the same walk reversed, with enters and leaves exchanged.
 abbrev pub BackwardWalkOfVisited : Type 0

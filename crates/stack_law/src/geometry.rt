@@ -44,37 +44,37 @@ pub enum Way {
 
 /// A box among the boxes of its shape, by its coordinates; in the plane the third is 0.
 #[derive(Clone, Copy, Debug)]
-pub struct Place {
+pub struct Position {
     pub x0: u32,
     pub x1: u32,
     pub x2: u32,
 }
 
 /// The lane of a face: its axis, and the parity of the plane in which it lies.
-pub fn lane(axis: Axis, side: Side, place: Place) -> u32
-    requires { IsSmall place }
-    ensures { result ≡ lane (axis_of axis) (side_of side) (box_of place) }
+pub fn lane(axis: Axis, side: Side, position: Position) -> u32
+    requires { IsSmall position }
+    ensures { result ≡ lane (axis_of axis) (side_of side) (box_of position) }
 {
     let size = match side {
         Side::Low => 0,
         Side::High => 1,
     };
     match axis {
-        Axis::First => (place.x0 + size) % 2,
-        Axis::Second => 2 + (place.x1 + size) % 2,
-        Axis::Third => 4 + (place.x2 + size) % 2,
+        Axis::First => (position.x0 + size) % 2,
+        Axis::Second => 2 + (position.x1 + size) % 2,
+        Axis::Third => 4 + (position.x2 + size) % 2,
     }
 }
 
 /// Whether the three parts of a split along the axis come by rising coordinate.
-pub fn ascends(direction: Direction, axis: Axis, place: Place) -> bool
-    requires { IsSmall place }
-    ensures { result ≡ ascends (direction_of direction) (axis_of axis) (box_of place) }
+pub fn ascends(direction: Direction, axis: Axis, position: Position) -> bool
+    requires { IsSmall position }
+    ensures { result ≡ ascends (direction_of direction) (axis_of axis) (box_of position) }
 {
     let others = match axis {
-        Axis::First => place.x1 + place.x2,
-        Axis::Second => place.x0 + place.x2,
-        Axis::Third => place.x0 + place.x1,
+        Axis::First => position.x1 + position.x2,
+        Axis::Second => position.x0 + position.x2,
+        Axis::Third => position.x0 + position.x1,
     };
     let shift = match direction {
         Direction::Forward => 0,
@@ -117,10 +117,10 @@ pub fn handed_down(
 mod tests {
     use super::*;
 
-    fn at(x0: u32, x1: u32) -> Place
+    fn at(x0: u32, x1: u32) -> Position
         ensures { result ≡ record { x0 = x0; x1 = x1; x2 = 0 } }
     {
-        Place { x0, x1, x2: 0 }
+        Position { x0, x1, x2: 0 }
     }
 
     // The centre of nine cells has its planes 1 and 2 on either axis.

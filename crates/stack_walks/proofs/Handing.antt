@@ -24,11 +24,11 @@ not_true : (b : Bool) → not b ≡ true → b ≡ true → ⊥
 not_true true e f = cc
 not_true false e f = cc
 
-or_implies : (a b : Bool) → (not a || b) ≡ true → a ≡ true → b ≡ true
+pub or_implies : (a b : Bool) → (not a || b) ≡ true → a ≡ true → b ≡ true
 or_implies true b e f = e
 or_implies false b e f = absurd (cc)
 
-implies_or : (a b : Bool) → (a ≡ true → b ≡ true) → (not a || b) ≡ true
+pub implies_or : (a b : Bool) → (a ≡ true → b ≡ true) → (not a || b) ≡ true
 implies_or true b f = f refl
 implies_or false b f = refl
 

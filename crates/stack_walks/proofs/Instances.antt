@@ -106,8 +106,13 @@ module _ (axis : ℕ → Axis) (is_cell : ℕ → Bool) where
         let n = splits - suc m in
         empty_below m (suc n) (column (axis (suc m)) k b) (omega arith) (rw (part_of n m k b, cell, closed) (not_right (is_in_grid axis is_cell refined n (suc m) b) false refl))
 
+two_closed : (axis : ℕ → Axis) (is_cell : ℕ → Bool) (splits : ℕ) (old new : ℕ → Box → Bool) → ClosedAreEmpty axis is_cell splits (one_holds (cells_of axis is_cell splits old) (cells_of axis is_cell splits new)) (one_holds old new)
+two_closed axis is_cell splits old new m b k l c e =
+    let f = not_one (old (suc m) b) (new (suc m) b) e in
+    empty_both axis is_cell (cells_of axis is_cell splits old) (cells_of axis is_cell splits new) m (column (axis (suc m)) k b) (grid_closed axis is_cell splits old m b k l c f.0) (grid_closed axis is_cell splits new m b k l c f.1)
+
 pub grids_are_closed : GridsAreClosed
-grids_are_closed axis is_cell splits refined = grid_closed axis is_cell splits refined
+grids_are_closed = (grid_closed, two_closed)
 
 pub one_grid_uses_stacks : OneGridUsesStacks
 one_grid_uses_stacks dir axis is_cell splits refined kept stored =
@@ -119,16 +124,11 @@ pub two_grids_use_stacks : TwoGridsUseStacks
 two_grids_use_stacks dir axis is_cell splits old new kept stored =
     kept_vertices_use_stacks dir axis is_cell splits (one_holds (cells_of axis is_cell splits old) (cells_of axis is_cell splits new)) (one_holds old new) kept
     (λ m v c l k. stored_unbroken (rank dir axis (splits - m) m) (extent axis (splits - m) m) (one_holds (cells_of axis is_cell splits old) (cells_of axis is_cell splits new) m) v (in_one m v (stored m v c l k)))
-    closed
+    (two_closed axis is_cell splits old new)
   where
     in_one : (m : ℕ) (v : Box) → IsStored (extent axis (splits - m) m) (cells_of axis is_cell splits old m) v ⊎ IsStored (extent axis (splits - m) m) (cells_of axis is_cell splits new m) v → IsStored (extent axis (splits - m) m) (one_holds (cells_of axis is_cell splits old) (cells_of axis is_cell splits new) m) v
     in_one m v (inl s) b inside touching = either (cells_of axis is_cell splits old m b) (cells_of axis is_cell splits new m b) (inl (s b inside touching))
     in_one m v (inr s) b inside touching = either (cells_of axis is_cell splits old m b) (cells_of axis is_cell splits new m b) (inr (s b inside touching))
-
-    closed : ClosedAreEmpty axis is_cell splits (one_holds (cells_of axis is_cell splits old) (cells_of axis is_cell splits new)) (one_holds old new)
-    closed m b k l c e =
-        let f = not_one (old (suc m) b) (new (suc m) b) e in
-        empty_both axis is_cell (cells_of axis is_cell splits old) (cells_of axis is_cell splits new) m (column (axis (suc m)) k b) (grid_closed axis is_cell splits old m b k l c f.0) (grid_closed axis is_cell splits new m b k l c f.1)
 
 pub next_walk_reads_the_output : (A : Type 0) → NextWalkReadsTheOutput A
 next_walk_reads_the_output A name dir axis is_cell splits visited is_open visited' is_open' kept closed closed' agree =

@@ -12,3 +12,4 @@ pub mod Counts
 pub mod Ends
 pub mod RunLengths
 pub mod Sums
+pub mod StoredTest

@@ -1,5 +1,5 @@
 -- Laws: the walks of the engine use their lanes as stacks.
-use Rattle.std.specs.Prelude.{◌≡◌, ◌⊎◌, ℕ, ◌-◌, ◌≤◌, Bool, true, List, [], ◌++◌, Some, reverse, flat_map}
+use Rattle.std.specs.Prelude.{◌≡◌, ◌⊎◌, ℕ, ◌-◌, ◌≤◌, Bool, true, List, [], ◌++◌, Some, reverse, flat_map, ◌↔◌}
 use Rattle.stack_law.specs.Boxes.{Axis, Box, Direction, turned_round}
 use Rattle.stack_law.specs.Visits.{walls}
 use Rattle.stack_law.specs.Order.{extent}
@@ -10,7 +10,7 @@ use Rattle.stack_walks.specs.Passing.{Passing, passing, same_passing}
 use Rattle.stack_walks.specs.Handing.{goes_on, came_from, KeptUnbroken}
 use Rattle.stack_walks.specs.Streams.{taken_in, given_out, AgreeRoundKept}
 use Rattle.stack_law.specs.Walk.{walk, ClosedAreEmpty}
-use Rattle.stack_walks.specs.Grids.{cells_of, IsStored, KeptAreStored, meets_range, both_hold, one_holds}
+use Rattle.stack_walks.specs.Grids.{cells_of, IsStored, is_stored, KeptAreStored, meets_range, both_hold, one_holds}
 use Rattle.stack_walks.specs.Fluxes.{by_faces}
 use Rattle.stack_law.specs.Domain.{root}
 
@@ -50,9 +50,15 @@ FluxesUseStacks A = (same : A → A → Bool) → TellsApart A same → (name : 
     (dir : Direction) (axis : ℕ → Axis) (is_cell : ℕ → Bool) (splits : ℕ) (cells is_open : ℕ → Box → Bool) → ClosedAreEmpty axis is_cell splits cells is_open →
     UseStacks A same (flat_map (by_faces A name cells) (walk dir axis is_cell cells is_open splits root walls))
 
--- Below a cell that is not refined a grid has no cells.
+-- Below a cell that is not refined a grid has no cells; below one that is refined in neither of two grids neither has cells.
 abbrev pub GridsAreClosed : Type 0
-GridsAreClosed = (axis : ℕ → Axis) (is_cell : ℕ → Bool) (splits : ℕ) (refined : ℕ → Box → Bool) → ClosedAreEmpty axis is_cell splits (cells_of axis is_cell splits refined) refined
+GridsAreClosed =
+    ((axis : ℕ → Axis) (is_cell : ℕ → Bool) (splits : ℕ) (refined : ℕ → Box → Bool) → ClosedAreEmpty axis is_cell splits (cells_of axis is_cell splits refined) refined)
+    × ((axis : ℕ → Axis) (is_cell : ℕ → Bool) (splits : ℕ) (old new : ℕ → Box → Bool) → ClosedAreEmpty axis is_cell splits (one_holds (cells_of axis is_cell splits old) (cells_of axis is_cell splits new)) (one_holds old new))
+
+-- The test of the grid cells round a vertex is exact.
+abbrev pub StoredTestIsExact : Type 0
+StoredTestIsExact = (bound : Axis → ℕ) (cells : Box → Bool) (v : Box) → (is_stored bound cells v ≡ true) ↔ IsStored bound cells v
 
 -- The output of a walk, read from its end, is the input of the next walk.
 abbrev pub NextWalkReadsTheOutput : Type 0 → Type 0
