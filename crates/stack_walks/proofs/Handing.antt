@@ -191,11 +191,11 @@ module _ (dir : Direction) (axis : ℕ → Axis) (splits : ℕ) (visited kept : 
 
     pub passes_to_next : PassesToNext place bound (visited m) (kept m) (goes_on dir axis splits visited kept m) (came_from dir axis splits visited kept m) b
     passes_to_next = record {
-      goes_on = λ c i h. (
+      to_next = λ c i h. (
         (λ t. (let f = and_true (kept_corner m b c) _ t in let g = and_true (visited m b) _ f.0 in let n = next_tells place bound (visited m) b c inside (next_is_least_later_neighbour dir axis (splits - m) m (visited m) (vertex b c) b (unbroken (vertex b c) g.1) inside (touches_vertex b c) g.0).1 i h f.1 in (g.1, n.0, n.1, n.2))),
         (λ f. and_both _ _ (and_both _ _ f.3.from f.0) (next_told place bound (visited m) b c inside i h f.1 f.2 f.3)),
       );
-      comes_in = λ c i h. (
+      from_before = λ c i h. (
         (λ t. (let f = and_true (kept_corner m b c) _ t in let g = and_true (visited m b) _ f.0 in let n = next_tells back_place bound (visited m) b c inside (next_is_least_later_neighbour (turned_round dir) axis (splits - m) m (visited m) (vertex b c) b (back_unbroken (vertex b c) g.1) inside (touches_vertex b c) g.0).1 i h f.1 in (g.1, n.0, n.1, flipped_next place back_place bound (visited m) (3 ^ (splits - m)) mirrored (vertex b c) b (beyond i h b) inside (touches_vertex b c) n.2))),
         (λ f. and_both _ _ (and_both _ _ f.3.to f.0) (next_told back_place bound (visited m) b c inside i h f.1 f.2 (flipped_next back_place place bound (visited m) (3 ^ (splits - m)) mirrored_back (vertex b c) (beyond i h b) b (neighbour_inside bound b i h inside f.2) (touches_beyond (vertex b c) b i h (rw (coord_vertex i b c, f.1) refl) (touches_vertex b c)) f.3))),
       );

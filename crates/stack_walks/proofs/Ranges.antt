@@ -1,12 +1,12 @@
 -- The cells of a tree's range.
 use Rattle.std.proofs.Common.{◌≡◌, ℕ, zero, suc, ◌+◌, ◌-◌, ◌*◌, ◌^◌, ◌<◌, ◌≤◌, ltb, Bool, true, false, ◌&&◌, arith, ⊎_elim}
-use Rattle.std.proofs.lemmas.Bool.{ltb-true, lt-ltb}
-use Rattle.std.proofs.Math.Nat.{pow-suc, mul-le-mul_right}
+use Rattle.std.proofs.lemmas.Bool.{cases_lt, ltb-true, lt-ltb}
+use Rattle.std.proofs.Math.Nat.{pow-zero, pow-suc, mul-le-mul_right}
 use Rattle.stack_law.specs.Boxes.{Axis, Column, Box, Direction, forward, backward, digit, column, ascends}
 use Rattle.stack_law.specs.Order.{rank, counted}
 use Rattle.stack_law.specs.Walk.{IsEmpty}
 use Rattle.stack_walks.specs.Grids.{meets_range, both_hold}
-use Rattle.stack_walks.specs.Instances.{RangesUseStacks}
+use Rattle.stack_walks.specs.Instances.{RangesUseStacks, RangeTestIsExact}
 use Rattle.stack_law.proofs.Ways.{finer_column, counted_below, digit_below}
 use Rattle.stack_law.proofs.Digits.{backward_is_reversed}
 use Rattle.stack_walks.proofs.GivenCorners.{and_true}
@@ -16,22 +16,24 @@ use Rattle.stack_walks.proofs.Instances.{empty_left, empty_right, not_two, kept_
 
 -- an interval of w positions, the p-th of its kind
 abbrev meets : ℕ → ℕ → ℕ → ℕ → Bool
-meets start stop w p = ltb (p * w) stop && ltb start ((p + 1) * w)
+meets start stop w p = ltb start stop && (ltb (p * w) stop && ltb start ((p + 1) * w))
 
 meets_between : (start stop w p q r : ℕ) → meets start stop w p ≡ true → meets start stop w r ≡ true → p ≤ q → q ≤ r → meets start stop w q ≡ true
 meets_between start stop w p q r h k l m =
-    let f = and_true (ltb (p * w) stop) _ h in
-    let g = and_true (ltb (r * w) stop) _ k in
+    let some = and_true (ltb start stop) _ h in
+    let f = and_true (ltb (p * w) stop) _ some.1 in
+    let g = and_true (ltb (r * w) stop) _ (and_true (ltb start stop) _ k).1 in
     let last = ltb-true _ _ g.0 in
     let begin = ltb-true _ _ f.1 in
     let below = mul-le-mul_right w m in
     let n : p + 1 ≤ q + 1 = omega arith in
     let above = mul-le-mul_right w n in
-    and_both (ltb (q * w) stop) (ltb start ((q + 1) * w)) (lt-ltb (q * w) stop (omega arith)) (lt-ltb start ((q + 1) * w) (omega arith))
+    and_both (ltb start stop) (ltb (q * w) stop && ltb start ((q + 1) * w)) some.0 (and_both (ltb (q * w) stop) (ltb start ((q + 1) * w)) (lt-ltb (q * w) stop (omega arith)) (lt-ltb start ((q + 1) * w) (omega arith)))
 
 meets_whole : (start stop w p q : ℕ) → 3 * p ≤ q → q < 3 * p + 3 → meets start stop w q ≡ true → meets start stop (3 * w) p ≡ true
 meets_whole start stop w p q l m h =
-    let f = and_true (ltb (q * w) stop) _ h in
+    let some = and_true (ltb start stop) _ h in
+    let f = and_true (ltb (q * w) stop) _ some.1 in
     let last = ltb-true _ _ f.0 in
     let begin = ltb-true _ _ f.1 in
     let below = mul-le-mul_right w l in
@@ -39,7 +41,7 @@ meets_whole start stop w p q l m h =
     let above = mul-le-mul_right w n in
     let a : p * (3 * w) ≡ 3 * p * w = omega arith in
     let b : (p + 1) * (3 * w) ≡ (3 * p + 3) * w = omega arith in
-    and_both (ltb (p * (3 * w)) stop) (ltb start ((p + 1) * (3 * w))) (lt-ltb (p * (3 * w)) stop (omega arith)) (lt-ltb start ((p + 1) * (3 * w)) (omega arith))
+    and_both (ltb start stop) (ltb (p * (3 * w)) stop && ltb start ((p + 1) * (3 * w))) some.0 (and_both (ltb (p * (3 * w)) stop) (ltb start ((p + 1) * (3 * w))) (lt-ltb (p * (3 * w)) stop (omega arith)) (lt-ltb start ((p + 1) * (3 * w)) (omega arith)))
 
 module _ (axis : ℕ → Axis) (splits start stop : ℕ) where
   abbrev held : ℕ → Box → Bool
@@ -78,3 +80,30 @@ ranges_use_stacks dir axis is_cell splits start stop cells is_open kept stored c
   where
     in_range : ℕ → Box → Bool
     in_range = meets_range axis splits start stop
+
+power_positive : (m : ℕ) → 0 < 3 ^ m
+power_positive zero = rw (pow-zero 3) (omega arith)
+power_positive (suc m) = (let h = power_positive m in rw (pow-suc 3 m) (omega arith))
+
+module _ (start stop w r : ℕ) where
+  abbrev Common : Type 0
+  Common = (p : ℕ) × (start ≤ p) × (p < stop) × (r * w ≤ p) × (p < (r + 1) * w)
+
+  meets_tells : 0 < w → meets start stop w r ≡ true → Common
+  meets_tells positive t =
+      let f = and_true (ltb start stop) _ t in
+      let g = and_true (ltb (r * w) stop) _ f.1 in
+      let some = ltb-true _ _ f.0 in
+      let last = ltb-true _ _ g.0 in
+      let begin = ltb-true _ _ g.1 in
+      ⊎_elim (λ l. (start, omega arith, some, omega arith, begin)) (λ l. (r * w, l, last, omega arith, omega arith)) (cases_lt (r * w) start)
+
+  meets_told : Common → meets start stop w r ≡ true
+  meets_told c =
+      let some : start < stop = omega arith in
+      let last : r * w < stop = omega arith in
+      let begin : start < (r + 1) * w = omega arith in
+      and_both (ltb start stop) (ltb (r * w) stop && ltb start ((r + 1) * w)) (lt-ltb start stop some) (and_both (ltb (r * w) stop) (ltb start ((r + 1) * w)) (lt-ltb (r * w) stop last) (lt-ltb start ((r + 1) * w) begin))
+
+pub range_test_is_exact : RangeTestIsExact
+range_test_is_exact axis splits start stop m b = (meets_tells start stop (3 ^ m) (rank forward axis (splits - m) m b) (power_positive m), meets_told start stop (3 ^ m) (rank forward axis (splits - m) m b))

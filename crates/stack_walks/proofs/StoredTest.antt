@@ -1,11 +1,11 @@
 -- The test of the grid cells round a vertex is exact.
-use Rattle.std.proofs.Common.{◌≡◌, ℕ, ◌+◌, ◌-◌, ◌<◌, ◌≤◌, ltb, leb, Bool, true, false, not, ◌&&◌, ◌||◌, List, [], ◌∷◌, refl, sym, ap, ◌∙◌, subst, arith, inl, inr}
+use Rattle.std.proofs.Common.{◌≡◌, ℕ, ◌+◌, ◌-◌, ◌<◌, ◌≤◌, ltb, leb, Bool, true, ◌&&◌, List, [], ◌∷◌, refl, sym, ap, ◌∙◌, subst, arith, inl, inr}
 use Rattle.std.proofs.lemmas.Bool.{ltb-true, lt-ltb, leb-true, le-leb}
-use Rattle.stack_law.specs.Boxes.{Axis, Side, Box, first, second, third, low, high, size, coord}
+use Rattle.stack_law.specs.Boxes.{Axis, Side, Box, first, second, third, low, high, size}
 use Rattle.stack_law.specs.Order.{IsInDomain}
 use Rattle.stack_law.specs.Around.{Touches}
 use Rattle.stack_law.specs.Once.{IsIn}
-use Rattle.stack_walks.specs.Corners.{Corner, all_corners, side_on, vertex}
+use Rattle.stack_walks.specs.Corners.{Corner, all_corners, vertex}
 use Rattle.stack_walks.specs.Grids.{IsStored, position, is_position, is_cell_at, all_of, is_stored}
 use Rattle.stack_walks.specs.Instances.{StoredTestIsExact}
 use Rattle.stack_walks.proofs.GivenCorners.{and_true}

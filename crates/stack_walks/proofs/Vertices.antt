@@ -24,18 +24,18 @@ module _ (place : Box → ℕ) (bound : Axis → ℕ) (visited kept : Box → Bo
   passes : (b : Box) → IsInDomain bound b → ((n : Box) → IsInDomain bound n → PassesToNext place bound visited kept goes comes n) → Passes place bound goes comes b
   passes b inside all =
       record {
-        goes_own = λ c i h e. (((all b inside).goes_on c i h).0 e).1;
-        comes_own = λ c i h e. (((all b inside).comes_in c i h).0 e).1;
-        goes_later = λ c i h e. (let f = ((all b inside).goes_on c i h).0 e in (f.2, f.3.later));
-        comes_earlier = λ c i h e. (let f = ((all b inside).comes_in c i h).0 e in (f.2, f.3.later));
+        goes_own = λ c i h e. (((all b inside).to_next c i h).0 e).1;
+        comes_own = λ c i h e. (((all b inside).from_before c i h).0 e).1;
+        goes_later = λ c i h e. (let f = ((all b inside).to_next c i h).0 e in (f.2, f.3.later));
+        comes_earlier = λ c i h e. (let f = ((all b inside).from_before c i h).0 e in (f.2, f.3.later));
         comes_from = λ c i h s l before.
             (let n = beyond i h b in
             let there = neighbour_inside bound b i h inside l in
             let at_vertex = vertex_across b c i h (bound i) s l in
             let back = there_and_back i h b (bound i) l in
             same_answer (comes b c i h) (goes n (mate i c) i (opposite h))
-            (λ t. (let f = ((all b inside).comes_in c i h).0 t in ((all n there).goes_on (mate i c) i (opposite h)).1 (subst (λ w. kept w ≡ true) at_vertex f.0, side_on_mate i c ∙ ap opposite s, inner_back i h b (bound i) (inside i) l, rw (← at_vertex, back) f.3)))
-            (λ t. (let f = ((all n there).goes_on (mate i c) i (opposite h)).0 t in ((all b inside).comes_in c i h).1 (subst (λ w. kept w ≡ true) (sym at_vertex) f.0, s, l, rw (← at_vertex, back) at f.3))));
+            (λ t. (let f = ((all b inside).from_before c i h).0 t in ((all n there).to_next (mate i c) i (opposite h)).1 (subst (λ w. kept w ≡ true) at_vertex f.0, side_on_mate i c ∙ ap opposite s, inner_back i h b (bound i) (inside i) l, rw (← at_vertex, back) f.3)))
+            (λ t. (let f = ((all n there).to_next (mate i c) i (opposite h)).0 t in ((all b inside).from_before c i h).1 (subst (λ w. kept w ≡ true) (sym at_vertex) f.0, s, l, rw (← at_vertex, back) at f.3))));
       }
 
 pub all_pass : (dir : Direction) (axis : ℕ → Axis) (is_cell : ℕ → Bool) (splits : ℕ) (visited kept : ℕ → Box → Bool) (goes comes : ℕ → Box → Corner → Axis → Side → Bool) → AllPassToNext dir axis is_cell splits visited kept goes comes → AllPass dir axis is_cell splits goes comes

@@ -17,7 +17,8 @@ CornersPassAlongLanes A = (same : A → A → Bool) → IsReflexive A same → (
 abbrev pub VerticesPassAlongLanes : Type 0 → Type 0
 VerticesPassAlongLanes A = (same : A → A → Bool) → IsReflexive A same → (dir : Direction) (axis : ℕ → Axis) (is_cell : ℕ → Bool) (splits : ℕ) (name : ℕ → Box → Box → A) (visited kept : ℕ → Box → Bool) (goes comes : ℕ → Box → Corner → Axis → Side → Bool) → AllPassToNext dir axis is_cell splits visited kept goes comes → run_all same (λ k. []) (flat_map (by_corners A name goes comes) (visits dir axis is_cell splits root walls)) ≡ Some (λ k. [])
 
--- The same, corner by corner: a passing is named by its vertex and the cell that receives it.
+-- At each moment of a walk each lane holds exactly the passings that were given and not yet taken, in the order in which they were given; a
+-- passing is named by its vertex and the cell that receives it.
 abbrev pub CornerLanesHoldTheRest : Type 0
 CornerLanesHoldTheRest = (dir : Direction) (axis : ℕ → Axis) (is_cell : ℕ → Bool) (splits : ℕ) (goes comes : ℕ → Box → Corner → Axis → Side → Bool) → AllPass dir axis is_cell splits goes comes →
     (done todo : List (Event Passing)) → flat_map (by_corners Passing passing goes comes) (visits dir axis is_cell splits root walls) ≡ done ++ todo → HoldsTheRest Passing same_passing done

@@ -20,6 +20,7 @@ pub record Kept : Type 0 where
   pub splits : ℕ
   pub vertex : Box
 
+-- such a vertex by its parts
 abbrev pub kept_vertex : ℕ → Box → Kept
 kept_vertex m v = record { splits = m; vertex = v }
 
@@ -38,6 +39,7 @@ module _ (dir : Direction) (axis : ℕ → Axis) (splits : ℕ) (visited kept : 
   kept_corners (enter m b io) = []
   kept_corners (leave m b io) = flat_map (λ c. if has_kept_corner dir axis splits visited kept m b c then kept_vertex m (vertex b c) ∷ [] else []) all_corners
 
+  -- what a visit does on the lanes
   abbrev pub lane_passings : Visit → List (Event Passing)
   lane_passings v = by_corners Passing passing (goes_on dir axis splits visited kept) (came_from dir axis splits visited kept) v
 
@@ -49,13 +51,15 @@ EachKeptCornerIsGiven = (counted : ℕ → Box → Bool) (dir : Direction) (axis
     + count_by (λ (k : Kept). counted k.splits k.vertex) (flat_map (given_out Kept kept_vertex dir axis splits visited kept) (visits dir axis is_cell splits root walls))
     ≡ count_by (λ (k : Kept). counted k.splits k.vertex) (flat_map (kept_corners dir axis splits visited kept) (visits dir axis is_cell splits root walls))
 
+-- whether two such vertices are the same
 abbrev pub same_kept : Kept → Kept → Bool
 same_kept k l = (k.splits == l.splits) && same_box k.vertex l.vertex
 
--- whether a vertex is a corner of a box, as a test
+-- on one axis: whether a plane bounds a box
 abbrev pub is_end : ℕ → ℕ → Bool
 is_end x v = nat_le x v && nat_le v (x + 1)
 
+-- whether a vertex is a corner of a box, as a test
 abbrev pub is_corner_of : Box → Box → Bool
 is_corner_of v b = is_end b.x0 v.x0 && (is_end b.x1 v.x1 && is_end b.x2 v.x2)
 

@@ -29,6 +29,7 @@ module _ (place : Box → ℕ) (bound : Axis → ℕ) (visited : Box → Bool) w
 
 -- `visited m b`: the cell b with m splits left is visited; `kept m v`: the vertex v of that level is kept
 module _ (dir : Direction) (axis : ℕ → Axis) (splits : ℕ) (visited kept : ℕ → Box → Bool) where
+  -- a kept vertex at a corner of a visited cell
   abbrev pub has_kept_corner : ℕ → Box → Corner → Bool
   has_kept_corner m b c = visited m b && kept m (vertex b c)
 
@@ -40,11 +41,11 @@ module _ (dir : Direction) (axis : ℕ → Axis) (splits : ℕ) (visited kept : 
   abbrev pub came_from : ℕ → Box → Corner → Axis → Side → Bool
   came_from m b c i h = has_kept_corner m b c && leads_next (rank (turned_round dir) axis (splits - m) m) (extent axis (splits - m) m) (visited m) b c i h
 
-  -- it goes nowhere: the cell is the last of those that are visited round it
+  -- it goes nowhere: the cell is the last of those that are visited round it, and gives it to the output
   abbrev pub ends_at : ℕ → Box → Corner → Bool
   ends_at m b c = has_kept_corner m b c && leads_nowhere (rank dir axis (splits - m) m) (extent axis (splits - m) m) (visited m) b c
 
-  -- it came from nowhere: the cell is the first of those
+  -- it came from nowhere: the cell is the first of those, and takes it from the input
   abbrev pub begins_at : ℕ → Box → Corner → Bool
   begins_at m b c = has_kept_corner m b c && leads_nowhere (rank (turned_round dir) axis (splits - m) m) (extent axis (splits - m) m) (visited m) b c
 

@@ -1,8 +1,8 @@
 -- Laws: the walks of the engine use their lanes as stacks.
-use Rattle.std.specs.Prelude.{◌≡◌, ◌⊎◌, ℕ, ◌-◌, ◌≤◌, Bool, true, List, [], ◌++◌, Some, reverse, flat_map, ◌↔◌}
-use Rattle.stack_law.specs.Boxes.{Axis, Box, Direction, turned_round}
+use Rattle.std.specs.Prelude.{◌≡◌, ◌⊎◌, ℕ, ◌-◌, ◌≤◌, Bool, true, List, [], ◌++◌, Some, reverse, flat_map, ◌↔◌, ◌<◌, ◌*◌, ◌^◌, ◌+◌}
+use Rattle.stack_law.specs.Boxes.{Axis, Box, Direction, turned_round, forward}
 use Rattle.stack_law.specs.Visits.{walls}
-use Rattle.stack_law.specs.Order.{extent}
+use Rattle.stack_law.specs.Order.{extent, rank}
 use Rattle.stack_law.specs.Stack.{Event, run_all}
 use Rattle.stack_walks.specs.Corners.{by_corners}
 use Rattle.stack_law.specs.Moments.{TellsApart, HoldsTheRest}
@@ -64,3 +64,7 @@ StoredTestIsExact = (bound : Axis → ℕ) (cells : Box → Bool) (v : Box) → 
 abbrev pub NextWalkReadsTheOutput : Type 0 → Type 0
 NextWalkReadsTheOutput A = (name : ℕ → Box → A) (dir : Direction) (axis : ℕ → Axis) (is_cell : ℕ → Bool) (splits : ℕ) (visited is_open visited' is_open' kept : ℕ → Box → Bool) → ClosedAreEmpty axis is_cell splits visited is_open → ClosedAreEmpty axis is_cell splits visited' is_open' → AgreeRoundKept axis is_cell splits visited visited' kept →
     reverse (flat_map (given_out A name dir axis splits visited kept) (walk dir axis is_cell visited is_open splits root walls)) ≡ flat_map (taken_in A name (turned_round dir) axis splits visited' kept) (walk (turned_round dir) axis is_cell visited' is_open' splits root walls)
+
+-- The test of a range is exact: the cell's interval and the range have a position in common.
+abbrev pub RangeTestIsExact : Type 0
+RangeTestIsExact = (axis : ℕ → Axis) (splits start stop m : ℕ) (b : Box) → (meets_range axis splits start stop m b ≡ true) ↔ ((p : ℕ) × (start ≤ p) × (p < stop) × (rank forward axis (splits - m) m b * 3 ^ m ≤ p) × (p < (rank forward axis (splits - m) m b + 1) * 3 ^ m))

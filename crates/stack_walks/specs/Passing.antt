@@ -9,8 +9,10 @@ pub record Passing : Type 0 where
   pub vertex : Box
   pub cell : Box
 
+-- a passing by its parts
 abbrev pub passing : ℕ → Box → Box → Passing
 passing m v q = record { splits = m; vertex = v; cell = q }
 
+-- whether two passings are the same
 abbrev pub same_passing : Passing → Passing → Bool
 same_passing p q = (p.splits == q.splits) && (same_box p.vertex q.vertex && same_box p.cell q.cell)

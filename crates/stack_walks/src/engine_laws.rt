@@ -1,6 +1,6 @@
 // The walks of the engine: one grid, two grids, a range, fluxes; input and output.
 
-ghost use Rattle.stack_walks.specs.Instances.{KeptVerticesUseStacks, OneGridUsesStacks, TwoGridsUseStacks, RangesUseStacks, FluxesUseStacks, GridsAreClosed, StoredTestIsExact, NextWalkReadsTheOutput};
+ghost use Rattle.stack_walks.specs.Instances.{KeptVerticesUseStacks, OneGridUsesStacks, TwoGridsUseStacks, RangesUseStacks, FluxesUseStacks, GridsAreClosed, RangeTestIsExact, StoredTestIsExact, NextWalkReadsTheOutput};
 ghost use Rattle.stack_walks.specs.StreamLaws.{OutputTurnedIsInput};
 
 /// A walk passes each kept vertex by stacks, where the visited cells are unbroken round it.
@@ -31,6 +31,11 @@ pub fn fluxes_use_stacks<T>()
 /// Below a cell that is not refined a grid has no cells, and so for two grids.
 pub fn grids_are_closed()
     ensures { GridsAreClosed }
+{}
+
+/// The test of a range is exact: the cell and the range have a position in common.
+pub fn range_test_is_exact()
+    ensures { RangeTestIsExact }
 {}
 
 /// The test of the grid cells round a vertex is exact.
