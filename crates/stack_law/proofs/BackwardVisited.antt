@@ -5,7 +5,8 @@ use Rattle.stack_law.specs.Visits.{Faces, Visit, enter, leave, handed_down, in_o
 use Rattle.stack_law.specs.Children.{turned_faces, turned_visit}
 use Rattle.stack_law.specs.Domain.{root}
 use Rattle.stack_law.specs.Walk.{walk, at_visited}
-use Rattle.stack_law.specs.WalkLaws.{BackwardWalkOfVisited}
+use Rattle.stack_law.specs.WalkLaws.{BackwardWalkOfVisited, BackwardWalkIsReversed}
+use Rattle.stack_law.proofs.Walk.{all, walk_all}
 use Rattle.stack_law.proofs.Backward.{other_parity, handed_turned, backed, backed_append, backed_order, backed_wrapped}
 
 module _ (dir : Direction) (axis : ℕ → Axis) (is_cell : ℕ → Bool) (visited is_open : ℕ → Box → Bool) where
@@ -39,3 +40,9 @@ module _ (dir : Direction) (axis : ℕ → Axis) (is_cell : ℕ → Bool) (visit
 
 pub backward_walk_of_visited : BackwardWalkOfVisited
 backward_walk_of_visited dir axis is_cell visited is_open splits = walk_backed dir axis is_cell visited is_open splits root walls
+
+pub backward_walk_is_reversed : BackwardWalkIsReversed
+backward_walk_is_reversed dir axis is_cell splits =
+    sym (walk_all (turned_round dir) axis is_cell splits root walls)
+    ∙ walk_backed dir axis is_cell (all dir axis is_cell) (all dir axis is_cell) splits root walls
+    ∙ ap backed (walk_all dir axis is_cell splits root walls)

@@ -2,7 +2,6 @@
 use Rattle.std.proofs.Common.{◌≡◌, Bool, true, false, ◌||◌, List, [], ◌∷◌, ◌++◌, refl, ⊎_elim, inl, inr, ◌⊎◌}
 use Rattle.stack_law.specs.Once.{IsIn}
 use Rattle.stack_law.specs.Stack.{among, AreDistinct}
-use Rattle.stack_law.proofs.Chains.{in_left}
 
 -- where an item is
 pub in_either : {V : Type 0} (x : V) (xs ys : List V) → IsIn x (xs ++ ys) → IsIn x xs ⊎ IsIn x ys
@@ -42,7 +41,3 @@ module _ (A : Type 0) (same : A → A → Bool) (same_self : (x : A) → same x 
   pub distinct_append : (xs ys : List A) → AreDistinct same xs → AreDistinct same ys → ((x : A) → IsIn x xs → IsIn x ys → ⊥) → AreDistinct same (xs ++ ys)
   distinct_append [] ys d e f = e
   distinct_append (x ∷ xs) ys d e f = (apart_from x (xs ++ ys) (λ h. ⊎_elim (not_in x xs d.0) (f x (inl refl)) (in_either x xs ys h)), distinct_append xs ys d.1 e (λ z h k. f z (inr h) k))
-
-  pub distinct_left : (xs ys : List A) → AreDistinct same (xs ++ ys) → AreDistinct same xs
-  distinct_left [] ys d = tt
-  distinct_left (x ∷ xs) ys d = (apart_from x xs (λ h. not_in x (xs ++ ys) d.0 (in_left (λ z. 0) x xs ys h)), distinct_left xs ys d.1)

@@ -13,9 +13,8 @@ use Rattle.stack_law.specs.Domain.{root}
 use Rattle.stack_law.proofs.Seen.{on_lane-append, enter_lane, leave_lane}
 use Rattle.stack_law.proofs.Across.{there_and_back, face_of}
 use Rattle.stack_law.proofs.Together.{no_more, lanes_are_stacks}
-use Rattle.stack_law.proofs.Held.{stacks_hold_what_was_not_taken}
+use Rattle.stack_law.proofs.Held.{stacks_hold_what_was_not_taken, distinct_left}
 use Rattle.stack_law.proofs.Moments.{no_pop_fails}
-use Rattle.stack_law.proofs.Distinct.{distinct_left}
 use Rattle.stack_law.proofs.Leaves.{left_with, TellsCell, leaves_distinct}
 
 module _ (A : Type 0) (same : A → A → Bool) where

@@ -1,11 +1,13 @@
 -- The children of a cell in turn, in a walk of some cells.
-use Rattle.std.proofs.Common.{◌≡◌, ℕ, suc, ◌%◌, Bool, true, false, not, if◌then◌else◌, List, [], ◌∷◌, ◌++◌, refl, ap, ◌∙◌, append-nil, arith, eq-eqb}
+use Rattle.std.proofs.Common.{◌≡◌, ℕ, suc, ◌%◌, Bool, true, false, not, if◌then◌else◌, List, [], ◌∷◌, ◌++◌, refl, ap, ◌∙◌, append-nil, arith, eq-eqb, subst}
 use Rattle.stack_law.specs.Boxes.{Axis, Box, forward, first, second, third, column, ascends}
-use Rattle.stack_law.specs.Visits.{Faces, Visit, enter, leave, handed_down}
+use Rattle.stack_law.specs.Visits.{Faces, Visit, enter, leave, handed_down, visits}
 use Rattle.stack_law.specs.Children.{in_turn, part, part_faces, child_two, child_three}
 use Rattle.stack_law.specs.Domain.{axis_in, cell_in}
 use Rattle.stack_law.specs.Walk.{walk}
-use Rattle.stack_law.specs.WalkLaws.{VisitedChildrenInTurn}
+use Rattle.stack_law.specs.WalkLaws.{VisitedChildrenInTurn, ChildrenInTurn}
+use mathlib.Core.Path.{fun_ext}
+use Rattle.stack_law.proofs.Walk.{all, walk_all}
 use Rattle.stack_law.proofs.Digits.{two_first, two_second, three_first, three_second, three_third}
 use Rattle.stack_law.proofs.Children.{order_turn, turn_each, child_two_is, child_three_is, no_cell, faces_two, faces_three}
 
@@ -45,3 +47,13 @@ three_in_turn visited is_open m b io e =
 
 pub visited_children_in_turn : VisitedChildrenInTurn
 visited_children_in_turn = ((λ visited is_open m b io e flat. (faces_two b io, two_in_turn visited is_open m b io e flat)), (λ visited is_open m b io e. (faces_three b io, three_in_turn visited is_open m b io e)))
+
+-- all cells visited, and all open
+all_walks : (axis : ℕ → Axis) (is_cell : ℕ → Bool) → walk forward axis is_cell (all forward axis is_cell) (all forward axis is_cell) ≡ visits forward axis is_cell
+all_walks axis is_cell = fun_ext (λ m. fun_ext (λ b. fun_ext (λ io. walk_all forward axis is_cell m b io)))
+
+pub children_in_turn : ChildrenInTurn
+children_in_turn = (
+  (λ m b io e flat. (faces_two b io, subst (λ w. w (suc (suc m)) b io ≡ enter (suc (suc m)) b io ∷ (in_turn (λ s. in_turn (λ t. w m (child_two b s t) (faces_two b io s t))) ++ (leave (suc (suc m)) b io ∷ []))) (all_walks (axis_in 2) (cell_in 2)) (two_in_turn (all forward (axis_in 2) (cell_in 2)) (all forward (axis_in 2) (cell_in 2)) m b io e flat))),
+  (λ m b io e. (faces_three b io, subst (λ w. w (suc (suc (suc m))) b io ≡ enter (suc (suc (suc m))) b io ∷ (in_turn (λ s. in_turn (λ t. in_turn (λ u. w m (child_three b s t u) (faces_three b io s t u)))) ++ (leave (suc (suc (suc m))) b io ∷ []))) (all_walks (axis_in 3) (cell_in 3)) (three_in_turn (all forward (axis_in 3) (cell_in 3)) (all forward (axis_in 3) (cell_in 3)) m b io e))),
+)

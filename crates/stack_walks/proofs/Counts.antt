@@ -15,8 +15,9 @@ use Rattle.stack_walks.specs.Handing.{has_kept_corner, goes_on, came_from, ends_
 use Rattle.stack_walks.specs.HandingLaws.{IsOnlyFace, HasOneWay}
 use Rattle.stack_walks.specs.Streams.{given_out}
 use Rattle.stack_walks.specs.Counts.{Kept, kept_vertex, given_by, all_given, kept_corners, lane_passings, EachKeptCornerIsGiven}
-use Rattle.stack_walks.proofs.OneWay.{false_if, each_corner_has_one_way}
+use Rattle.stack_walks.proofs.OneWay.{each_corner_has_one_way}
 use Rattle.stack_law.proofs.Ways.{ways_follow_the_order}
+use Rattle.stack_law.proofs.Held.{false_if}
 
 pub count-append : {X : Type 0} (p : X → Bool) (xs ys : List X) → count_by p (xs ++ ys) ≡ count_by p xs + count_by p ys
 count-append p xs ys = sum_by-append (λ x. cond (p x) 1 0) xs ys

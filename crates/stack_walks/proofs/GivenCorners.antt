@@ -53,7 +53,7 @@ in_some f x [] h = absurd h
 in_some f x (v ∷ vs) h = ⊎_elim (λ k. (v, inl refl, k)) (λ k. (let g = in_some f x vs k in (g.0, inr g.1, g.2))) (in_either x (f v) (flat_map f vs) h)
 
 -- corners of one cell are different vertices
-size_same : (x : ℕ) (s t : Side) → x + size s ≡ x + size t → s ≡ t
+pub size_same : (x : ℕ) (s t : Side) → x + size s ≡ x + size t → s ≡ t
 size_same x low low e = refl
 size_same x low high e = absurd (omega arith)
 size_same x high low e = absurd (omega arith)

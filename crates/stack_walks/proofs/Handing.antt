@@ -8,7 +8,7 @@ use Rattle.stack_walks.specs.Corners.{Corner, side_on, vertex, PassesToNext}
 use Rattle.stack_walks.specs.Handing.{has_neighbour, leads_later, not_sooner, leads_next, leads_nowhere, has_kept_corner, goes_on, came_from}
 use Rattle.stack_walks.specs.HandingLaws.{NeighboursTellTheRun}
 use Rattle.stack_walks.proofs.Corners.{neighbour_inside}
-use Rattle.stack_walks.proofs.GivenCorners.{and_true, same_side_exact, same_side_self}
+use Rattle.stack_walks.proofs.GivenCorners.{size_same, and_true, same_side_exact, same_side_self}
 use Rattle.stack_law.proofs.Visited.{next_is_least_later_neighbour, touches_beyond}
 use Rattle.stack_law.proofs.Digits.{backward_is_reversed}
 
@@ -40,33 +40,19 @@ pub test_inner : (h : Side) (x e : ℕ) → IsInner h x e → has_neighbour h x 
 test_inner low x e l = lt-ltb 0 x l
 test_inner high x e l = lt-ltb (x + 1) e l
 
+side_between : (x : ℕ) (s : Side) → (x ≤ x + size s) × (x + size s ≤ x + 1)
+side_between x low = (omega arith, omega arith)
+side_between x high = (omega arith, omega arith)
+
 pub touches_vertex : (b : Box) (c : Corner) → Touches (vertex b c) b
 touches_vertex b c first = side_between b.x0 c.s0
-  where
-    side_between : (x : ℕ) (s : Side) → (x ≤ x + size s) × (x + size s ≤ x + 1)
-    side_between x low = (omega arith, omega arith)
-    side_between x high = (omega arith, omega arith)
 touches_vertex b c second = side_between b.x1 c.s1
-  where
-    side_between : (x : ℕ) (s : Side) → (x ≤ x + size s) × (x + size s ≤ x + 1)
-    side_between x low = (omega arith, omega arith)
-    side_between x high = (omega arith, omega arith)
 touches_vertex b c third = side_between b.x2 c.s2
-  where
-    side_between : (x : ℕ) (s : Side) → (x ≤ x + size s) × (x + size s ≤ x + 1)
-    side_between x low = (omega arith, omega arith)
-    side_between x high = (omega arith, omega arith)
 
 pub coord_vertex : (j : Axis) (b : Box) (c : Corner) → coord j (vertex b c) ≡ coord j b + size (side_on j c)
 coord_vertex first b c = refl
 coord_vertex second b c = refl
 coord_vertex third b c = refl
-
-size_exact : (x : ℕ) (g s : Side) → x + size g ≡ x + size s → g ≡ s
-size_exact x low low e = refl
-size_exact x low high e = absurd (omega arith)
-size_exact x high low e = absurd (omega arith)
-size_exact x high high e = refl
 
 -- a cell that is later across a face is another cell
 beyond_edge : (i : Axis) (b : Box) → coord i b ≡ 0 → beyond i low b ≡ b
@@ -96,7 +82,7 @@ module _ (place : Box → ℕ) (bound : Axis → ℕ) (visited : Box → Bool) (
 
   pub candidate_later : (i : Axis) (h : Side) → IsCandidate place bound visited v b i h → (side_on i c ≡ h) × (leads_later place bound visited b i h ≡ true)
   candidate_later i h k =
-      (sym (size_exact (coord i b) h (side_on i c) (k.plane ∙ coord_vertex i b c)), and_both _ _ (test_inner h (coord i b) (bound i) (inner_later i h k.inside k.later)) (and_both _ _ k.visited_there (lt-ltb _ _ k.later)))
+      (sym (size_same (coord i b) h (side_on i c) (k.plane ∙ coord_vertex i b c)), and_both _ _ (test_inner h (coord i b) (bound i) (inner_later i h k.inside k.later)) (and_both _ _ k.visited_there (lt-ltb _ _ k.later)))
 
   sooner_tells : (i : Axis) (h : Side) (j : Axis) (g : Side) → not_sooner place bound visited b c i h j ≡ true → IsCandidate place bound visited v b j g → place (beyond i h b) ≤ place (beyond j g b)
   sooner_tells i h j g t k =

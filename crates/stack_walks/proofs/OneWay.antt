@@ -12,6 +12,7 @@ use Rattle.stack_walks.proofs.GivenCorners.{and_true}
 use Rattle.stack_law.proofs.Visited.{touches_beyond, next_is_least_later_neighbour, visited_runs_go_across_faces}
 use Rattle.stack_law.proofs.Digits.{backward_is_reversed}
 use Rattle.stack_walks.proofs.Handing.{touches_vertex, next_tells, next_told, nowhere_tells, nowhere_told, candidate_later, inner_later, flipped_unbroken}
+use Rattle.stack_law.proofs.Held.{false_if}
 
 -- different faces lead to different boxes
 other_axis : (i j : Axis) (v : ℕ) (b : Box) → same_axis i j ≡ false → coord i (moved j v b) ≡ coord i b
@@ -43,13 +44,6 @@ one_axis i j h g b e l q = by_test (same_axis i j) refl
     by_test : (t : Bool) → same_axis i j ≡ t → j ≡ i
     by_test true s = sym (same_axis-true i j s)
     by_test false s = absurd (moves i h b e l (ap (coord i) q ∙ others_stay i j g b s))
-
-not_both : (b : Bool) → b ≡ true → b ≡ false → ⊥
-not_both b p q = cc
-
-pub false_if : (b : Bool) → (b ≡ true → ⊥) → b ≡ false
-false_if true f = absurd (f refl)
-false_if false f = refl
 
 module _ (dir : Direction) (axis : ℕ → Axis) (n m : ℕ) (visited : Box → Bool) (b : Box) (c : Corner) (inside : IsInDomain (extent axis n m) b) (here : visited b ≡ true) (unbroken : IsUnbroken (rank dir axis n m) (extent axis n m) visited (vertex b c)) where
   abbrev place : Box → ℕ

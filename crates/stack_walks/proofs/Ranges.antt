@@ -11,7 +11,7 @@ use Rattle.stack_law.proofs.Ways.{finer_column, counted_below, digit_below}
 use Rattle.stack_law.proofs.Digits.{backward_is_reversed}
 use Rattle.stack_walks.proofs.GivenCorners.{and_true}
 use Rattle.stack_walks.proofs.Handing.{and_both}
-use Rattle.stack_walks.proofs.OneWay.{false_if}
+use Rattle.stack_law.proofs.Held.{false_if}
 use Rattle.stack_walks.proofs.Instances.{empty_left, empty_right, not_two, kept_vertices_use_stacks}
 
 -- an interval of w positions, the p-th of its kind

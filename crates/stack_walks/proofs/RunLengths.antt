@@ -19,7 +19,7 @@ use Rattle.stack_law.proofs.Ways.{ways_follow_the_order}
 use Rattle.stack_law.proofs.Distinct.{in_either, not_in}
 use Rattle.stack_walks.proofs.GivenCorners.{and_true, same_box_self, same_box_exact, in_some, same_corner_self, same_corner_exact, corners_distinct, vertex_same}
 use Rattle.stack_walks.proofs.Handing.{and_both, touches_vertex}
-use Rattle.stack_walks.proofs.OneWay.{false_if}
+use Rattle.stack_law.proofs.Held.{false_if}
 use Rattle.stack_walks.proofs.Counts.{count-append, each_kept_corner_is_given}
 use Rattle.stack_walks.proofs.Ends.{kept_decided, corner_at, is_a_corner, outputs_distinct, ends_once}
 

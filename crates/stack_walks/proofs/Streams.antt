@@ -17,7 +17,7 @@ use Rattle.stack_law.proofs.Ways.{ways_follow_the_order}
 use Rattle.stack_walks.proofs.Corners.{neighbour_inside, reverse_flat}
 use Rattle.stack_law.proofs.Visited.{touches_beyond}
 use Rattle.stack_walks.proofs.Handing.{inner_test, touches_vertex, coord_vertex, turned_twice}
-use Rattle.stack_law.proofs.Backward.{backward_walk_is_reversed}
+use Rattle.stack_law.proofs.BackwardVisited.{backward_walk_is_reversed}
 
 pub flat_same : {V W : Type 0} (f g : V → List W) → ((v : V) → f v ≡ g v) → (vs : List V) → flat_map f vs ≡ flat_map g vs
 flat_same f g e [] = refl

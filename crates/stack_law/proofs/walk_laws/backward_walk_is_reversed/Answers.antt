@@ -1,4 +1,4 @@
-use Rattle.stack_law.proofs.Backward.{backward_walk_is_reversed}
+use Rattle.stack_law.proofs.BackwardVisited.{backward_walk_is_reversed}
 use Rattle.stack_law.proofs.walk_laws.backward_walk_is_reversed.Goals as goal
 
 pub returns : goal.returns

@@ -1,4 +1,4 @@
-use Rattle.stack_law.proofs.Children.{children_in_turn}
+use Rattle.stack_law.proofs.VisitedChildren.{children_in_turn}
 use Rattle.stack_law.proofs.walk_laws.children_in_turn.Goals as goal
 
 pub returns : goal.returns
