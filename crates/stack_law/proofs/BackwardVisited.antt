@@ -21,9 +21,6 @@ module _ (dir : Direction) (axis : ℕ → Axis) (is_cell : ℕ → Bool) (visit
   closed_backed true xs ys e = refl
   closed_backed false xs ys e = e
 
-  turned_back : (m : ℕ) (b : Box) (io : Faces) → turned_visit (leave m b io) ≡ enter m b (turned_faces io)
-  turned_back m b io = refl
-
   walk_backed : (m : ℕ) (b : Box) (io : Faces) → walk (turned_round dir) axis is_cell visited is_open m b (turned_faces io) ≡ backed (walk dir axis is_cell visited is_open m b io)
   walk_backed zero b io = rw (visited_backed zero b (leave zero b io), visited_backed zero b (enter zero b io)) (sym (backed_append (at_visited dir axis is_cell visited is_open zero b (enter zero b io)) (at_visited dir axis is_cell visited is_open zero b (leave zero b io))))
   walk_backed (suc m) b io =

@@ -8,6 +8,7 @@ use Rattle.stack_law.specs.Transfer.{transfer}
 use Rattle.stack_law.specs.Domain.{root}
 use Rattle.stack_law.specs.Moments.{TellsApart, IsNamed, HoldsTheRest}
 
+-- a test that finds each item the same as itself
 abbrev pub IsReflexive : (A : Type 0) → (A → A → Bool) → Type 0
 IsReflexive A same = (x : A) → same x x ≡ true
 
