@@ -1,7 +1,7 @@
 -- Laws: the walk, its order and its faces.
 use Rattle.std.specs.Prelude.{ℕ, ◌≤◌, suc, map, reverse, ◌∷◌, ◌+◌, ◌*◌, ◌^◌, ◌-◌, ◌%◌, ◌≡◌, Bool, true, List, [], ◌++◌, flat_map, if◌then◌else◌}
 use Rattle.std.specs.List.{AllByRecursion}
-use Rattle.stack_law.specs.Boxes.{Axis, Box, Direction, forward, turned_round}
+use Rattle.stack_law.specs.Boxes.{Axis, Box, Direction, forward, turned_round, first, second, third}
 use Rattle.stack_law.specs.Visits.{Faces, Visit, enter, leave, visits, walls}
 use Rattle.stack_law.specs.Order.{IsRightVisit, IsInDomain, rank, extent}
 use Rattle.stack_law.specs.Once.{IsAscending, IsIn, entered_at, left_at}
@@ -19,6 +19,12 @@ abbrev pub RanksAreOfDigits : Type 0
 RanksAreOfDigits =
     ((l k x0 x1 : ℕ) → rank forward (axis_in 2) (2 * l) (2 * k) (record { x0 = x0; x1 = x1; x2 = 0 }) ≡ rank_two l x0 x1)
     × ((l k x0 x1 x2 : ℕ) → rank forward (axis_in 3) (3 * l) (3 * k) (record { x0 = x0; x1 = x1; x2 = x2 }) ≡ rank_three l x0 x1 x2)
+
+-- A level has three times as many cells along each axis as the level above; in the plane there is one along the third.
+abbrev pub ExtentsArePowers : Type 0
+ExtentsArePowers =
+    ((l k : ℕ) → extent (axis_in 2) (2 * l) (2 * k) first ≡ 3 ^ l × extent (axis_in 2) (2 * l) (2 * k) second ≡ 3 ^ l × extent (axis_in 2) (2 * l) (2 * k) third ≡ 1)
+    × ((l k : ℕ) (i : Axis) → extent (axis_in 3) (3 * l) (3 * k) i ≡ 3 ^ l)
 
 -- Cells of one level have different ranks.
 abbrev pub RanksTellCellsApart : Type 0

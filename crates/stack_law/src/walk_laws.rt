@@ -1,6 +1,6 @@
 // The walk along the curve: its order, the faces of its boxes, its way back.
 
-ghost use Rattle.stack_law.specs.WalkLaws.{EachCellOnce, WaysFollowTheOrder, RanksAreOfDigits, RanksTellCellsApart, ChildrenInTurn, VisitedChildrenInTurn, BackwardIsReversed, BackwardWalkIsReversed, BackwardWalkOfVisited, WalkOfVisitedDoesAll};
+ghost use Rattle.stack_law.specs.WalkLaws.{EachCellOnce, WaysFollowTheOrder, RanksAreOfDigits, ExtentsArePowers, RanksTellCellsApart, ChildrenInTurn, VisitedChildrenInTurn, BackwardIsReversed, BackwardWalkIsReversed, BackwardWalkOfVisited, WalkOfVisitedDoesAll};
 
 /// Each cell of a level is entered once and left once, in the order of the ranks.
 pub fn each_cell_once()
@@ -15,6 +15,11 @@ pub fn ways_follow_the_order()
 /// The order by splits is the order by digits, axis 0 slowest.
 pub fn ranks_are_of_digits()
     ensures { RanksAreOfDigits }
+{}
+
+/// A level has three times as many cells along each axis as the level above.
+pub fn extents_are_powers()
+    ensures { ExtentsArePowers }
 {}
 
 /// Cells of one level have different ranks.
