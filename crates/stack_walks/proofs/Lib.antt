@@ -1,0 +1,15 @@
+pub mod Corners
+pub mod Vertices
+pub mod GivenCorners
+pub mod Handing
+pub mod OneWay
+pub mod Streams
+pub mod Instances
+pub mod Ranges
+pub mod Fluxes
+pub mod Sanity
+pub mod Counts
+pub mod Ends
+pub mod RunLengths
+pub mod Sums
+pub mod StoredTest

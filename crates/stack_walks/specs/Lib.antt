@@ -1,0 +1,12 @@
+pub mod Corners
+pub mod Passing
+pub mod CornerLaws
+pub mod Handing
+pub mod HandingLaws
+pub mod Streams
+pub mod StreamLaws
+pub mod Grids
+pub mod Fluxes
+pub mod Instances
+pub mod Counts
+pub mod Checks

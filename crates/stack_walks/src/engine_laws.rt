@@ -1,0 +1,54 @@
+// The walks of the engine: one grid, two grids, a range, fluxes; input and output.
+
+ghost use Rattle.stack_walks.specs.Instances.{KeptVerticesUseStacks, OneGridUsesStacks, TwoGridsUseStacks, RangesUseStacks, FluxesUseStacks, GridsAreClosed, RangeTestIsExact, StoredTestIsExact, NextWalkReadsTheOutput};
+ghost use Rattle.stack_walks.specs.StreamLaws.{OutputTurnedIsInput};
+
+/// A walk passes each kept vertex by stacks, where the visited cells are unbroken round it.
+pub fn kept_vertices_use_stacks()
+    ensures { KeptVerticesUseStacks }
+{}
+
+/// One grid, with vertices that are stored in it.
+pub fn one_grid_uses_stacks()
+    ensures { OneGridUsesStacks }
+{}
+
+/// The cells of an old or a new grid, with vertices that are stored in one of them.
+pub fn two_grids_use_stacks()
+    ensures { TwoGridsUseStacks }
+{}
+
+/// The cells that a tree's range meets, alone.
+pub fn ranges_use_stacks()
+    ensures { RangesUseStacks }
+{}
+
+/// One item for each face between two cells of a grid.
+pub fn fluxes_use_stacks<T>()
+    ensures { FluxesUseStacks T }
+{}
+
+/// Below a cell that is not refined a grid has no cells, and so for two grids.
+pub fn grids_are_closed()
+    ensures { GridsAreClosed }
+{}
+
+/// The test of a range is exact: the cell and the range have a position in common.
+pub fn range_test_is_exact()
+    ensures { RangeTestIsExact }
+{}
+
+/// The test of the grid cells round a vertex is exact.
+pub fn stored_test_is_exact()
+    ensures { StoredTestIsExact }
+{}
+
+/// The output of a walk, read from its end, is the input of the walk the other way.
+pub fn output_turned_is_input<T>()
+    ensures { OutputTurnedIsInput T }
+{}
+
+/// The same of walks of some cells alone.
+pub fn next_walk_reads_the_output<T>()
+    ensures { NextWalkReadsTheOutput T }
+{}
