@@ -1,5 +1,4 @@
 pub mod Tree
-pub mod Plain
 pub mod Places
 pub mod Faults
 pub mod Values

@@ -1,11 +1,10 @@
--- What stands in a document: its tree, numbers in a range, corners of boxes, tables with no other keys.
-use Rattle.std.specs.Prelude.{◌≡◌, ℕ, ◌≤◌, slice_index, suc, ℤ, pos, negsuc, Bool, true, ◌&&◌, List, Option, Some, None, nat_le, if◌then◌else◌, option_and_then, nat_eq}
+-- What stands in a document: its tree, numbers in a range, tables with no other keys.
+use Rattle.std.specs.Prelude.{ℕ, suc, ℤ, pos, negsuc, Bool, true, ◌&&◌, List, Option, Some, None, nat_le, if◌then◌else◌, option_and_then, nat_eq}
 use Rattle.std.specs.Str.{is_utf8}
 use Rattle.std.specs.List.{list_any}
 use lib.Pointwise.{pointwise}
 use Rattle.toml.specs.Data.{Data, Items, Members, as_integer, no_items, item, no_members, member}
 use Rattle.toml.specs.Parse.{parse_document}
-use Rattle.peano_keys.specs.Cell.{triple}
 
 -- the tree of the bytes, none where they are no text or no document
 abbrev pub tree_of : List ℕ → Option Members
@@ -20,16 +19,6 @@ whole_in low high (negsuc n) = None
 abbrev pub number_in : ℕ → ℕ → Option Data → Option ℕ
 number_in low high None = None
 number_in low high (Some d) = option_and_then (whole_in low high) (as_integer d)
-
--- three coordinates, the third of them unused
-abbrev pub flat : Option ℕ → Option ℕ → Option (List ℕ)
-flat (Some x) (Some y) = Some (triple x y 0)
-flat _ _ = None
-
--- exactly two integers, each in its range
-abbrev pub corner_in : ℕ → ℕ → ℕ → ℕ → Items → Option (List ℕ)
-corner_in low low' high high' (item x (item y no_items)) = flat (number_in low high (Some x)) (number_in low' high' (Some y))
-corner_in low low' high high' _ = None
 
 -- whether two texts have the same bytes
 abbrev pub same_text : List ℕ → List ℕ → Bool
@@ -48,11 +37,3 @@ has_only keys (member k d rest) = is_one_of keys k && has_only keys rest
 abbrev pub count_items : Items → ℕ
 count_items no_items = 0
 count_items (item d rest) = suc (count_items rest)
-
--- a corner of the plane from `low` to `high`
-pub record IsCornerIn (low high x : List ℕ) : Type 0 where
-  pub first_low : slice_index low 0 ≤ slice_index x 0
-  pub first_high : slice_index x 0 ≤ slice_index high 0
-  pub second_low : slice_index low 1 ≤ slice_index x 1
-  pub second_high : slice_index x 1 ≤ slice_index high 1
-  pub flat : slice_index x 2 ≡ 0

@@ -5,7 +5,6 @@ mod boxes;
 mod fault;
 mod keys;
 mod place;
-mod plain;
 mod plan;
 mod reading;
 mod solver;
@@ -17,6 +16,5 @@ mod values;
 
 pub use fault::{Malformed, PlanFault};
 pub use place::{KeyName, Part, Place};
-pub use plain::{PlainPlan, read_plain};
 pub use plan::{Plan, is_printed, read_plan};
 pub use text::{PlaceText, place_text};

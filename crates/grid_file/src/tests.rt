@@ -1,7 +1,5 @@
 //! Refusals and plans of whole files, printed steps, and texts of places.
-use crate::{
-    KeyName, Malformed, Part, Place, PlanFault, is_printed, place_text, read_plain, read_plan,
-};
+use crate::{KeyName, Malformed, Part, Place, PlanFault, is_printed, place_text, read_plan};
 use peano_keys::{Dim, State};
 use solver_api::Solver;
 use spacetree::{Fill, Zone};
@@ -208,8 +206,6 @@ fn a_pulse_is_read(rt: HostRuntime) -> Result<(), Fail> {
     assert!(rt; matches!(plan.solver, AnySolver::Diffuse(_)) && !plan.solver.adapts());
     assert_eq!(rt; plan.steps, 1);
     assert_eq!(rt; plan.print_every, None);
-    let plain = read_plain(alloc, PULSE.as_bytes())?;
-    assert!(rt; plain.is_some());
     Ok(())
 }
 

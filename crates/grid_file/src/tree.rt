@@ -1,8 +1,8 @@
-//! What stands in a document: numbers in a range, corners of boxes, tables with no other keys.
-ghost use Rattle.std.specs.Prelude.{◌≡◌, ◌≤◌, IfOk, IfSome, length, option_map, option_copied, slice_index};
+//! What stands in a document: its tree, numbers in a range, texts, tables and lists.
+ghost use Rattle.std.specs.Prelude.{◌≡◌, ◌≤◌, IfOk, IfSome, length, option_map, option_copied};
 ghost use Rattle.toml.specs.Data.{get_member};
 ghost use Rattle.toml.specs.View.{view, table_view, items_view};
-ghost use Rattle.grid_file.specs.Tree.{tree_of, whole_in, number_in, corner_in, IsCornerIn};
+ghost use Rattle.grid_file.specs.Tree.{tree_of, whole_in, number_in};
 ghost use Rattle.grid_file.specs.Values.{number_or, items_at, text_at, table_at, are_tables, tables_within, list_in};
 
 use std::alloc::{AllocError, Global};
@@ -53,21 +53,6 @@ pub fn number(found: Option<&Value>, low: u64, high: u64) -> Option<u64>
             None => None,
             Some(z) => whole(z, low, high),
         },
-    }
-}
-
-// Exactly two integers, each in its range.
-pub fn corner(items: &[Value], low: [u32; 2], high: [u32; 2]) -> Option<[u32; 3]>
-    ensures value { result ≡ corner_in (slice_index low 0) (slice_index low 1) (slice_index high 0) (slice_index high 1) (items_view items.now) }
-    ensures within { IfSome result (IsCornerIn low high) }
-{
-    match items {
-        [x, y] => {
-            let first = number(Some(x), u64::from(low[0]), u64::from(high[0]))?;
-            let second = number(Some(y), u64::from(low[1]), u64::from(high[1]))?;
-            Some([first as u32, second as u32, 0])
-        }
-        _ => None,
     }
 }
 

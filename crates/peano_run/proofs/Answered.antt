@@ -4,10 +4,9 @@ use Rattle.peano_io.specs.Reading.{ReadsToEnd}
 use Rattle.peano_keys.specs.declared.dim.Dim.{Dim}
 use Rattle.peano_run.specs.declared.answer.Answer.{Answer}
 use Rattle.peano_run.specs.declared.answer.Answer.TheVariants.{Done, Usage, ReadFault, TooLong, Malformed, Limit, Crowded, Overflow, WriteFault, NoMemory}
-use Rattle.peano_run.specs.declared.answer.LimitKind.TheVariants.{Cells, Lines}
 use Rattle.peano_run.specs.declared.ending.Ending.{Ending}
 use Rattle.peano_run.specs.Report.{IsReport, IsRefused}
-use Rattle.peano_run.specs.Run.{RefusalOf, RefusalBy, NamesIn, EndsBy, ReadFaultRose, IsEarly, Reports}
+use Rattle.peano_run.specs.Run.{RefusalOf, NamesIn, EndsBy, ReadFaultRose, IsEarly, Reports}
 
 -- a refusal of the file comes before anything is written, and no read has failed
 early : (bytes : List ℕ) (faults now : ℕ) (a : Answer) → now ≡ faults → IsRefused bytes a → RefusalOf a bytes × ReadFaultRose a faults now × IsEarly a

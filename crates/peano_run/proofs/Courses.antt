@@ -1,5 +1,5 @@
 -- A course goes on from moment to moment.
-use Rattle.std.proofs.Common.{◌≡◌, ℕ, zero, suc, ◌+◌, ◌<◌, ◌≤◌, List, [], ◌++◌, refl, sym, subst, ap, ◌∙◌, arith}
+use Rattle.std.proofs.Common.{◌≡◌, ℕ, zero, suc, ◌+◌, ◌≤◌, [], ◌++◌, sym, subst, ap, arith}
 use Rattle.peano_keys.specs.declared.cell.CellKey.{CellKey}
 use Rattle.peano_keys.specs.Grid.{Spacetree, IsGrid}
 use Rattle.peano_keys.specs.Field.{States}
@@ -15,7 +15,7 @@ use Rattle.peano_run.specs.declared.answer.Answer.{Answer}
 use Rattle.peano_run.specs.declared.answer.Answer.TheVariants as answer
 use Rattle.peano_run.specs.declared.answer.LimitKind.TheVariants.{Cells, Lines}
 use Rattle.peano_run.specs.declared.course.Course.{Course}
-use Rattle.peano_run.specs.Report.{Moment, Starts, Follows, Reaches, GoesOn, Refuses, most_lines, shown, shown_lines}
+use Rattle.peano_run.specs.Report.{Moment, Reaches, GoesOn, Refuses, shown, shown_lines}
 use Rattle.peano_run.specs.Course.{moment_of, IsCourse, Shows, ShowFails}
 
 -- an evaluation of one step is that step
@@ -81,9 +81,13 @@ opening_reached plan c grid room field text lines = record {
 
 -- and each later moment in one more
 pub next_reached : (plan : Plan) (n : ℕ) (b c : Course) → GoesOn plan n (moment_of b) → IsServedStep (updated_by plan.solver) (marked_by plan.solver) b.grid b.field c.grid c.field → c.text.items ≡ b.text.items → c.lines ≡ b.lines → Reaches plan (suc n) (shown_moment plan (suc n) c)
-next_reached plan n b c on taken text lines = (moment_of b, on.reached, record {
-  room = on.room;
-  taken = taken;
-  text = ap (λ t. t ++ shown plan (suc n) c.field) text;
-  lines = ap (λ k. k + shown_lines plan (suc n) c.field) lines;
-})
+next_reached plan n b c on taken text lines = (
+  moment_of b,
+  on.reached,
+  record {
+    room = on.room;
+    taken = taken;
+    text = ap (λ t. t ++ shown plan (suc n) c.field) text;
+    lines = ap (λ k. k + shown_lines plan (suc n) c.field) lines;
+  },
+)

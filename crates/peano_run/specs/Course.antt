@@ -1,5 +1,5 @@
 -- The course of a run as the program holds it.
-use Rattle.std.specs.Prelude.{◌≡◌, ℕ, ◌+◌, ◌<◌, ◌≤◌, ◌++◌, List, [], length}
+use Rattle.std.specs.Prelude.{◌≡◌, ℕ, ◌+◌, ◌<◌, ◌≤◌, ◌++◌, length}
 use Rattle.peano_keys.specs.Grid.{IsGrid}
 use Rattle.volume_solver.specs.Any.{parts_in}
 use Rattle.spacetree.specs.Fields.{IsFieldOn, rows_of}

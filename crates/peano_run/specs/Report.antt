@@ -1,10 +1,9 @@
 -- The course of a run, step by step, and what it comes to: the report of a file, or the cause of a refusal.
-use Rattle.std.specs.Prelude.{◌≡◌, ℕ, zero, suc, ◌+◌, ◌<◌, ◌≤◌, Bool, List, [], ◌++◌, length, if◌then◌else◌, Result, Ok, Err}
+use Rattle.std.specs.Prelude.{◌≡◌, ℕ, zero, suc, ◌+◌, ◌<◌, ◌≤◌, List, [], ◌++◌, length, if◌then◌else◌, Ok, Err}
 use Rattle.peano_keys.specs.declared.cell.CellKey.{CellKey}
-use Rattle.peano_keys.specs.declared.state.State.{State}
 use Rattle.peano_keys.specs.Grid.{Spacetree}
 use Rattle.peano_keys.specs.Field.{States}
-use Rattle.solver_api.specs.Step.{UpdateRule, MarkRule, Overflows}
+use Rattle.solver_api.specs.Step.{Overflows}
 use Rattle.volume_solver.specs.Any.{updated_by, marked_by, parts_in}
 use Rattle.spacetree.specs.Opening.{Opens, OpensField}
 use Rattle.spacetree.specs.Build.{IsTooLarge}

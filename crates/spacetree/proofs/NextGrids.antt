@@ -1,5 +1,5 @@
 -- The next grid is a grid, and each of its leaves comes from a leaf of the old one.
-use Rattle.std.proofs.Common.{zero, suc, ◌%◌, ◌<◌, ◌^◌, ◌==◌, ◌&&◌, not, length, arith, ◌≡◌, ℕ, List, Bool, true, false, cond, refl, sym, ◌∙◌, subst, inl, inr, Option, Some, IsSome, IfSome, None}
+use Rattle.std.proofs.Common.{zero, suc, ◌%◌, ◌<◌, ◌==◌, ◌&&◌, not, length, arith, ◌≡◌, ℕ, List, Bool, true, false, cond, refl, sym, ◌∙◌, subst, inl, inr, Option, Some, IsSome, IfSome, None}
 use Rattle.std.specs.FinMap as map
 use Rattle.std.proofs.lemmas.Bool.{false≢true, or_parts}
 use Rattle.peano_keys.specs.declared.dim.Dim.{Dim}

@@ -1,12 +1,11 @@
 -- Refined cells of an opening grid: their ancestors are refined too.
-use Rattle.std.proofs.Common.{◌+◌, ◌-◌, ◌*◌, ◌^◌, ◌/◌, ◌<◌, ◌≤◌, min, max, arith, ◌≡◌, ℕ, zero, suc, List, refl, ap, sym, ◌∙◌, subst, inl, inr, Any}
+use Rattle.std.proofs.Common.{◌+◌, ◌-◌, ◌*◌, ◌^◌, ◌/◌, ◌<◌, ◌≤◌, min, max, arith, ◌≡◌, ℕ, zero, suc, List, refl, sym, subst, inl, inr, Any}
 use Rattle.std.proofs.Math.Nat.{mul-le-mul_right}
-use Rattle.std.proofs.lemmas.Nat.{pow-add}
 use Rattle.std.specs.FinSet as set
 use Rattle.peano_keys.specs.declared.dim.Dim.{Dim}
 use Rattle.peano_keys.specs.declared.dim.Dim.TheVariants.{Two, Three}
 use Rattle.peano_keys.specs.declared.cell.CellKey.{CellKey}
-use Rattle.peano_keys.specs.Cell.{IsCell, at, parent_of}
+use Rattle.peano_keys.specs.Cell.{parent_of}
 use Rattle.spacetree.proofs.Children.{extent_above, parent_cell}
 use Rattle.peano_keys.specs.Grid.{Cells, Spacetree, IsGrid}
 use Rattle.spacetree.specs.declared.shape.Shape.{Shape}

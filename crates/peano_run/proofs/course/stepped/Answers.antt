@@ -1,4 +1,4 @@
-use Rattle.std.proofs.Common.{ℕ, ◌+◌, ◌≤◌, suc, arith, refl, sym, subst, add-one}
+use Rattle.std.proofs.Common.{ℕ, ◌+◌, ◌≤◌, arith, refl, sym, subst, add-one}
 use Rattle.std.proofs.lemmas.Result.{IfOk-weaker, MatchResult-weaker}
 use Rattle.volume_solver.specs.Any.{updated_by, marked_by}
 use Rattle.peano_run.specs.declared.course.Course.{Course}

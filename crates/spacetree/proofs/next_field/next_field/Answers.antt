@@ -1,4 +1,4 @@
-use Rattle.std.proofs.Common.{ap, ◌∙◌, sym, subst, ◌+◌, [], List, get_or, take, Some, Option, refl}
+use Rattle.std.proofs.Common.{ap, ◌∙◌, sym, subst, ◌+◌, List, get_or, take, Some, Option, refl}
 use Rattle.std.proofs.lemmas.List.{take_all}
 use Rattle.peano_keys.specs.declared.cell.CellKey.{CellKey}
 use Rattle.peano_keys.specs.declared.dim.Dim.{Dim}
@@ -6,7 +6,6 @@ use Rattle.peano_keys.specs.declared.state.State.{State}
 use Rattle.peano_keys.specs.Cell.{IsCell}
 use Rattle.peano_keys.specs.Field.{state_at}
 use Rattle.solver_api.specs.Step.{source_of}
-use Rattle.spacetree.specs.Leaves.{is_among}
 use Rattle.spacetree.proofs.CellSets.{leaf_at, nowhere}
 use Rattle.spacetree.proofs.Givens.{Gives, gives_none, gives_more, given_at_leaf, keys_given}
 use Rattle.spacetree.proofs.next_field.next_field.Goals as goal

@@ -1,4 +1,4 @@
-use Rattle.std.proofs.Common.{arith, ◌≡◌, ◌≤◌, ap, ◌∙◌, inl, inr, refl, sym, true}
+use Rattle.std.proofs.Common.{arith, ◌≡◌, ap, ◌∙◌, inl, inr, refl, sym, true}
 use Rattle.std.proofs.lemmas.Bool.{false≢true}
 use Rattle.std.specs.FinSet as set
 use Rattle.peano_keys.specs.Cell.{child_of}

@@ -1,11 +1,10 @@
-use Rattle.std.proofs.Common.{arith, ◌≡◌, [], List, ap, ◌∙◌, get_or, length, take, sym, subst, true}
+use Rattle.std.proofs.Common.{arith, ◌≡◌, List, ap, ◌∙◌, get_or, length, take, sym, subst}
 use Rattle.std.proofs.lemmas.List.{take_all}
 use Rattle.std.specs.FinSet as set
 use Rattle.peano_keys.specs.declared.cell.CellKey.{CellKey}
 use Rattle.peano_keys.specs.declared.dim.Dim.{Dim}
 use Rattle.peano_keys.specs.Cell.{IsCell}
-use Rattle.peano_keys.specs.Grid.{Cells, is_refined}
-use Rattle.spacetree.specs.Leaves.{is_among}
+use Rattle.peano_keys.specs.Grid.{Cells}
 use Rattle.spacetree.specs.Marked.{HasChildren, IsAddedWhere}
 use Rattle.spacetree.proofs.CellSets.{listed_at, nowhere}
 use Rattle.spacetree.proofs.NextGrids.{next_from_sets}
