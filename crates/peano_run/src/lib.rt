@@ -5,6 +5,8 @@ mod answer;
 mod course;
 mod ending;
 mod report;
+#[cfg(test)]
+mod tests;
 mod text;
 mod top;
 

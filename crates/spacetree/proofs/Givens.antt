@@ -11,8 +11,7 @@ use Rattle.peano_keys.specs.Grid.{Spacetree}
 use Rattle.peano_keys.specs.Field.{States, state_at}
 use Rattle.solver_api.specs.Step.{IsLeafOf}
 use Rattle.spacetree.specs.Leaves.{is_among, ListsLeaves}
-use Rattle.spacetree.specs.Fields.{IsFieldOn}
-use Rattle.spacetree.specs.Marked.{HasLeaves}
+use Rattle.spacetree.specs.Fields.{HasLeaves, IsFieldOn}
 use Rattle.spacetree.proofs.CellMaps.{cells_total, exact_cells}
 use Rattle.spacetree.proofs.CellSets.{same_key, among_next}
 

@@ -1,5 +1,5 @@
 -- What a step makes of the leaves of a grid: their new states, the sets of those that have a mark, and what comes of these.
-use Rattle.std.specs.Prelude.{◌≡◌, ◌↔◌, ◌⊎◌, ℕ, true, List, IsSome, Some}
+use Rattle.std.specs.Prelude.{◌≡◌, ◌↔◌, ◌⊎◌, ℕ, true, List, Some}
 use Rattle.std.specs.FinMap as map
 use Rattle.std.specs.FinSet as set
 use Rattle.peano_keys.specs.declared.cell.CellKey.{CellKey}
@@ -12,11 +12,8 @@ use Rattle.peano_keys.specs.Field.{States, state_at}
 use Rattle.solver_api.specs.Step.{UpdateRule, IsLeafOf, new_state, source_of}
 use Rattle.spacetree.specs.declared.fault.EvalFault.{EvalFault}
 use Rattle.spacetree.specs.declared.fault.EvalFault.TheVariants.{Overflow, Crowded, NoMemory}
+use Rattle.spacetree.specs.Fields.{HasLeaves}
 use Rattle.spacetree.specs.Evaluation.{IsCrowded}
-
--- the keys of a field are the leaves of a grid
-abbrev pub HasLeaves : Spacetree → States → Type 0
-HasLeaves t f = (c : CellKey) → IsSome (map.get f c) ↔ IsLeafOf t c
 
 -- a field has the new state of each leaf of a grid
 abbrev pub HasNewStates : UpdateRule → Spacetree → States → States → Type 0

@@ -4,7 +4,8 @@ ghost use Rattle.peano_keys.specs.Cell.{IsCell, centre_child};
 ghost use Rattle.peano_keys.specs.Grid.{IsGrid};
 ghost use Rattle.peano_keys.specs.Field.{state_at};
 ghost use Rattle.solver_api.specs.Step.{source_of};
-ghost use Rattle.spacetree.specs.Marked.{HasLeaves, Inherits};
+ghost use Rattle.spacetree.specs.Fields.{HasLeaves};
+ghost use Rattle.spacetree.specs.Marked.{Inherits};
 
 use crate::field::Field;
 use crate::grid::Grid;
