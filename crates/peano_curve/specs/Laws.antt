@@ -12,11 +12,15 @@ use Rattle.peano_keys.specs.Cell.{IsCell, IsDigits, at, triple, parent_of, child
 use Rattle.peano_curve.specs.declared.order.Direction.{Direction}
 use Rattle.peano_curve.specs.declared.range.Range.{Range}
 use Rattle.peano_curve.specs.Order.{turned, sibling_place, rank_of, nth_child, interval_of, centre_of, curve_cmp}
-use Rattle.peano_curve.specs.Run.{Holds, Follows, DifferOn}
+use Rattle.peano_curve.specs.Run.{Holds, HoldsCell, CellLater, Follows, DifferOn}
 
 -- consecutive cells of a run differ on one axis, by one
 abbrev pub RunIsGray : Type 0
 RunIsGray = (dir : Direction) (dim : Dim) (v : VertexKey) (r : Range) (depth : ℕ) (c next : CellKey) → Follows dir dim v r depth c next → (axis : ℕ) × DifferOn dim axis c next
+
+-- what a range holds of a level is unbroken: a cell between two that are held is held
+abbrev pub HeldAreUnbroken : Type 0
+HeldAreUnbroken = (dim : Dim) (depth : ℕ) (r : Range) (dir : Direction) (c between q : CellKey) → c.level ≡ between.level → q.level ≡ between.level → CellLater dir dim c between → CellLater dir dim between q → HoldsCell dim depth r c → HoldsCell dim depth r q → HoldsCell dim depth r between
 
 -- the ancestor of a level
 abbrev pub ancestor_of : CellKey → ℕ → CellKey

@@ -5,7 +5,7 @@ ghost use Rattle.peano_keys.specs.declared.cell.CellKey.{CellKey};
 ghost use Rattle.peano_keys.specs.Dim.{axes};
 ghost use Rattle.peano_keys.specs.Cell.{IsCell, neighbour_of};
 ghost use Rattle.peano_curve.specs.Order.{curve_cmp};
-ghost use Rattle.peano_curve.specs.Laws.{IsIn, IsAtFace, RunIsGray, RanksTellApart, ChildAtPlace, SplitsOrderChildren, OrderIsByDigits, AncestorComesFirst, IntervalIsDescendants, CentreIsShared};
+ghost use Rattle.peano_curve.specs.Laws.{IsIn, IsAtFace, RunIsGray, HeldAreUnbroken, RanksTellApart, ChildAtPlace, SplitsOrderChildren, OrderIsByDigits, AncestorComesFirst, IntervalIsDescendants, CentreIsShared};
 
 use crate::order::compare;
 use peano_keys::{CellKey, Dim, Face};
@@ -35,6 +35,11 @@ pub fn mirror(dim: Dim, p: CellKey, face: Face, a: CellKey, b: CellKey) -> Order
 /// Consecutive cells of a vertex's run differ on one axis, by one.
 pub fn run_is_gray()
     ensures { RunIsGray }
+{}
+
+/// The cells of a level that a range holds are unbroken along the curve: one between two of them is held too.
+pub fn held_are_unbroken()
+    ensures { HeldAreUnbroken }
 {}
 
 /// Cells of one level have different ranks along the curve.
