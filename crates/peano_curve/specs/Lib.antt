@@ -2,3 +2,4 @@ pub mod Order
 pub mod Run
 pub mod Passing
 pub mod Laws
+pub mod Splits

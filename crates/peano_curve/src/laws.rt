@@ -5,6 +5,7 @@ ghost use Rattle.peano_keys.specs.declared.cell.CellKey.{CellKey};
 ghost use Rattle.peano_keys.specs.Dim.{axes};
 ghost use Rattle.peano_keys.specs.Cell.{IsCell, neighbour_of};
 ghost use Rattle.peano_curve.specs.Order.{curve_cmp};
+ghost use Rattle.peano_curve.specs.Splits.{RanksArePlaces};
 ghost use Rattle.peano_curve.specs.Laws.{IsIn, IsAtFace, RunIsGray, HeldAreUnbroken, RanksTellApart, ChildAtPlace, SplitsOrderChildren, OrderIsByDigits, AncestorComesFirst, IntervalIsDescendants, CentreIsShared};
 
 use crate::order::compare;
@@ -55,6 +56,11 @@ pub fn child_at_place()
 /// Nested splits of a cell into three, one axis after another, give the order of its children.
 pub fn splits_order_children()
     ensures { SplitsOrderChildren }
+{}
+
+/// The rank of a cell is the place of its box among those that splits along one axis at a time make.
+pub fn ranks_are_places()
+    ensures { RanksArePlaces }
 {}
 
 /// The order is that of the digits below the last common ancestor.
