@@ -2,3 +2,4 @@ pub mod Texts
 pub mod Report
 pub mod Course
 pub mod Run
+pub mod Outcome

@@ -4,6 +4,7 @@
 mod answer;
 mod course;
 mod ending;
+pub mod laws;
 mod report;
 #[cfg(test)]
 mod tests;
