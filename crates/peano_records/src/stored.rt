@@ -31,6 +31,7 @@ impl Model for Stored {
     ghost invariant = { λ s. length s.slots ≡ 8 };
 }
 
+// A record is moved at each visit of its vertex, so it stays small.
 const _: () = prove!(size_of::<Stored>() <= 600);
 
 /// A copy of a vertex record as plain data, which one tree hands to another.

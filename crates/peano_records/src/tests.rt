@@ -1,8 +1,8 @@
 //! Worked values of records, and their sizes.
 ghost use Rattle.std.specs.Prelude.{◌≡◌};
 
-use crate::{CellRecord, CellView, Corner, Intent, Parcel, Slot, Status, Stored, Traffic};
-use peano_keys::{CellKey, Dim, Mark, Side, Sides, State, VertexKey, is_vertex};
+use crate::{CellView, Corner, Intent, Slot, Status, Stored};
+use peano_keys::{Dim, Mark, State, VertexKey, is_vertex};
 use std::mem::size_of;
 
 fn vertex(level: u32, v: [u32; 3]) -> VertexKey
