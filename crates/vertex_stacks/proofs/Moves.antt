@@ -8,9 +8,9 @@ use Rattle.peano_records.specs.declared.stored.Stored.{Stored}
 use Rattle.vertex_stacks.specs.Lists.{held_by}
 
 -- a lane that a dimension uses is one of the six
-pub lane_below : (dim : Dim) (lane : ℕ) → lane < 2 * axes dim → lane < 6
-lane_below Two lane h = omega arith
-lane_below Three lane h = omega arith
+pub lane_within : (dim : Dim) (lane n : ℕ) → n ≡ 6 → lane < 2 * axes dim → lane < n
+lane_within Two lane n six h = omega arith
+lane_within Three lane n six h = omega arith
 
 -- what all lists hold, after one of them changed
 pub held_by-set : (lists : List (List Stored)) (i : ℕ) (new : List Stored) → i < length lists → held_by (set lists i new) + length (get_or lists i []) ≡ held_by lists + length new

@@ -13,6 +13,9 @@ use peano_records::{Parcel, Slot, Stored};
 use std::alloc::{AllocError, Global};
 use std::marker::Model;
 
+#[cfg(test)]
+mod tests;
+
 /// The note of a sweep that ended. `Lanes::turn` alone makes one, so its counts are those of the
 /// vertices that were moved.
 #[derive(Clone, Copy, Debug, PartialEq, Eq)]
