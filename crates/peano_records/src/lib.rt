@@ -2,9 +2,12 @@
 //! What a record's slots say of the cells round its vertex, while a store is at rest, stands in this crate's specs.
 #![tactic(auto)]
 
+pub mod laws;
 mod packed;
 mod slot;
 mod stored;
+#[cfg(test)]
+mod tests;
 mod traffic;
 mod view;
 

@@ -23,9 +23,9 @@ pub enum Intent {
 /// after the step, `mark` what its leaf is marked to become.
 #[derive(Clone, Copy, Debug, PartialEq, Eq)]
 pub struct Slot {
-    pub status: Status,
     pub value: State,
     pub next: State,
+    pub status: Status,
     pub mark: Mark,
     pub intent: Intent,
 }

@@ -9,6 +9,7 @@ use crate::packed::PackedSlot;
 use crate::slot::{Intent, Slot, Status};
 use peano_keys::{Dim, Mark, State, VertexKey, adjacent};
 use std::marker::Model;
+use std::mem::size_of;
 
 /// The record of a stored vertex. It is moved from list to list and never copied. Contracts see its key and its eight
 /// slots; in two dimensions the last four are not in use.
@@ -29,6 +30,9 @@ impl Model for Stored {
 
     ghost invariant = { λ s. length s.slots ≡ 8 };
 }
+
+// A record is moved at each visit of its vertex, so it stays small.
+const _: () = prove!(size_of::<Stored>() <= 600);
 
 /// A copy of a vertex record as plain data, which one tree hands to another.
 #[derive(Clone, Copy, Debug, PartialEq, Eq)]

@@ -1,6 +1,7 @@
 //! Cell records, and what a visitor sees of a cell.
 use crate::stored::Stored;
 use peano_keys::{CellKey, Sides, State, VertexKey};
+use std::mem::size_of;
 
 /// What the cell stream has of a cell: whether it is refined, and the number of the task that computes it.
 #[derive(Clone, Copy, Debug, PartialEq, Eq)]
@@ -17,6 +18,8 @@ pub enum Corner {
     Hanging(VertexKey),
     Beyond,
 }
+
+const _: () = prove!(size_of::<Corner>() <= 600);
 
 /// What a visitor sees of a cell. `was` and `will` say whether the cell is refined in the old and in the new grid, and
 /// are none where it is no cell there. `carried` is the value of the cell's parent.
