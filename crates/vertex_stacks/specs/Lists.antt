@@ -7,7 +7,9 @@ use Rattle.peano_records.specs.declared.stored.Parcel.{Parcel}
 use Rattle.vertex_stacks.specs.declared.tale.Tale.{Tale}
 use Rattle.vertex_stacks.specs.Tales.{no_tale}
 
--- the lists: the input begins with the vertex that is taken next, every other list is oldest first; there are six lanes, of which a plane uses four; `spare` vertices can be put or pushed with no want of memory
+-- the lists: the input begins with the vertex that is taken next, every other list is oldest first;
+-- there are six lanes, of which a plane uses four;
+-- while `spare` is positive, a vertex is put or pushed with no want of memory
 pub record SweepLists : Type 0 where
   pub dim : Dim
   pub input : List Stored
@@ -25,7 +27,17 @@ lane_at s n = slice_index_or s.lanes n []
 
 -- lists that hold nothing, with nothing counted and nothing told
 abbrev pub nothing_moved : Dim → ℤ → SweepLists
-nothing_moved dim spare = record { dim = dim; input = []; output = []; lanes = [] ∷ [] ∷ [] ∷ [] ∷ [] ∷ [] ∷ []; spare = spare; taken = 0; put = 0; pushed = 0; tale = no_tale }
+nothing_moved dim spare = record {
+  dim = dim;
+  input = [];
+  output = [];
+  lanes = [] ∷ [] ∷ [] ∷ [] ∷ [] ∷ [] ∷ [];
+  spare = spare;
+  taken = 0;
+  put = 0;
+  pushed = 0;
+  tale = no_tale;
+}
 
 -- the input and all lanes are empty
 pub record IsDrained (s : SweepLists) : Type 0 where
@@ -47,7 +59,17 @@ HaveRoom room buffers = All (λ buffer. room ≤ vec_capacity buffer) buffers
 
 -- lists as they are seen, where each buffer has room for `room` vertices
 abbrev pub lists_seen : Dim → ℕ → List Stored → List Stored → List (List Stored) → ℕ → ℕ → ℕ → Tale → SweepLists
-lists_seen dim room input output lanes taken put pushed tale = record { dim = dim; input = input; output = output; lanes = lanes; spare = pos room -ℤ pos (length input + length output + held_by lanes); taken = taken; put = put; pushed = pushed; tale = tale }
+lists_seen dim room input output lanes taken put pushed tale = record {
+  dim = dim;
+  input = input;
+  output = output;
+  lanes = lanes;
+  spare = pos room -ℤ pos (length input + length output + held_by lanes);
+  taken = taken;
+  put = put;
+  pushed = pushed;
+  tale = tale;
+}
 
 -- a vertex as plain data
 abbrev pub parcel_of : Stored → Parcel

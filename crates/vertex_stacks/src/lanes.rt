@@ -1,6 +1,8 @@
 //! Lanes: the input, the output and the temporary stacks of a sweep, with what was moved between
 //! them; and the note of a sweep, which only lanes that are drained give.
-ghost use Rattle.std.specs.Prelude.{◌≡◌, ℕ, ◌+◌, ◌*◌, ◌<◌, ◌≤◌, ◌↔◌, [], ◌∷◌, ◌++◌, map, reverse, length, pos, ◌<ℤ◌, ◌≤ℤ◌, ◌+ℤ◌, IsOk, IsTrue, IfErr, OnOk, IfSome, IsSomeAnd, slice_set, slice_get, vec_capacity, vec_len, All};
+ghost use Rattle.std.specs.Prelude.{◌≡◌, ℕ, ◌+◌, ◌*◌, ◌<◌, ◌≤◌, ◌↔◌, pos, ◌<ℤ◌, ◌≤ℤ◌, ◌+ℤ◌};
+ghost use Rattle.std.specs.Prelude.{IsOk, IsTrue, IfErr, OnOk, IfSome, IsSomeAnd, All};
+ghost use Rattle.std.specs.Prelude.{[], ◌∷◌, ◌++◌, map, reverse, length, slice_set, slice_get, vec_capacity, vec_len};
 ghost use Rattle.peano_keys.specs.Dim.{axes};
 ghost use Rattle.peano_records.specs.Slots.{with_slot};
 ghost use Rattle.vertex_stacks.specs.Lists.{IsDrained, HaveRoom, held_by, items_of, lane_at, nothing_moved, parcel_of};
@@ -33,9 +35,23 @@ impl Model for SweepNote {
 
     ghost Value = { Note };
 
-    ghost view = { λ n. record { step = n.step; kind = n.kind; tree = n.tree; taken = n.taken; put = n.put; pushed = n.pushed } };
+    ghost view = { λ n. record {
+      step = n.step;
+      kind = n.kind;
+      tree = n.tree;
+      taken = n.taken;
+      put = n.put;
+      pushed = n.pushed;
+    } };
 
-    ghost inverse = { λ n. record { step = n.step; kind = n.kind; tree = n.tree; taken = n.taken; put = n.put; pushed = n.pushed } };
+    ghost inverse = { λ n. record {
+      step = n.step;
+      kind = n.kind;
+      tree = n.tree;
+      taken = n.taken;
+      put = n.put;
+      pushed = n.pushed;
+    } };
 }
 
 impl SweepNote {
@@ -104,9 +120,13 @@ impl Model for Lanes {
 
     ghost Value = { SweepLists };
 
-    ghost view = { λ l. lists_seen l.dim l.room (reverse l.input.items) l.output.items (map items_of l.lanes) l.taken l.put l.pushed l.tale };
+    ghost view = { λ l. lists_seen l.dim l.room
+        (reverse l.input.items) l.output.items (map items_of l.lanes)
+        l.taken l.put l.pushed l.tale };
 
-    ghost invariant = { λ l. (length l.lanes ≡ 6) × (l.room ≤ vec_capacity l.input) × (l.room ≤ vec_capacity l.output) × HaveRoom l.room l.lanes };
+    ghost invariant = { λ l. (length l.lanes ≡ 6)
+        × (l.room ≤ vec_capacity l.input) × (l.room ≤ vec_capacity l.output)
+        × HaveRoom l.room l.lanes };
 }
 
 // Whether no buffer holds a vertex.
@@ -135,7 +155,8 @@ fn places(
     lanes: &[Vec<Stored>; 6],
     more: u64,
 ) -> Option<u64>
-    ensures { IfSome result (λ n. n ≡ length input.now.items + length output.now.items + held_by (map items_of lanes.now) + more) }
+    ensures { IfSome result (λ n.
+        n ≡ length input.now.items + length output.now.items + held_by (map items_of lanes.now) + more) }
 {
     let on_lanes = count(lanes)?;
     let in_streams = (input.len() as u64).checked_add(output.len() as u64)?;
@@ -215,7 +236,11 @@ impl Lanes {
     pub fn take_input(&mut self) -> Option<Stored>
         ensures none { result ≡ None → (self.old.input ≡ []) × (self.new ≡ self.old) }
         ensures first { IfSome result (λ v. self.old.input ≡ v ∷ self.new.input) }
-        ensures others { IfSome result (λ _. self.new ≡ record self.old { input = self.new.input; spare = self.new.spare; taken = capped (self.old.taken + 1) }) }
+        ensures others { IfSome result (λ _. self.new ≡ record self.old {
+          input = self.new.input;
+          spare = self.new.spare;
+          taken = capped (self.old.taken + 1);
+        }) }
         ensures spare { IfSome result (λ _. (self.old.spare +ℤ pos 1) ≤ℤ self.new.spare) }
     {
         let v = self.input.pop()?;
@@ -228,7 +253,10 @@ impl Lanes {
         requires { lane < 2 * axes self.old.dim }
         ensures none { result ≡ None → (lane_at self.old lane ≡ []) × (self.new ≡ self.old) }
         ensures last { IfSome result (λ v. lane_at self.old lane ≡ lane_at self.new lane ++ v ∷ []) }
-        ensures others { IfSome result (λ _. self.new ≡ record self.old { lanes = slice_set self.old.lanes lane (lane_at self.new lane); spare = self.new.spare }) }
+        ensures others { IfSome result (λ _. self.new ≡ record self.old {
+          lanes = slice_set self.old.lanes lane (lane_at self.new lane);
+          spare = self.new.spare;
+        }) }
         ensures spare { IfSome result (λ _. (self.old.spare +ℤ pos 1) ≤ℤ self.new.spare) }
     {
         let v = self.lanes[lane as usize].pop()?;
@@ -238,7 +266,11 @@ impl Lanes {
     /// Puts a vertex behind the output. Where memory is wanting the vertex comes back and nothing
     /// changes; never so while there is room to spare.
     pub fn put_output(&mut self, v: Stored) -> Result<(), Stored>
-        ensures ok { OnOk result (self.new ≡ record self.old { output = self.old.output ++ v ∷ []; spare = self.new.spare; put = capped (self.old.put + 1) }) }
+        ensures ok { OnOk result (self.new ≡ record self.old {
+          output = self.old.output ++ v ∷ [];
+          spare = self.new.spare;
+          put = capped (self.old.put + 1);
+        }) }
         ensures spare { OnOk result (self.old.spare ≤ℤ (self.new.spare +ℤ pos 1)) }
         ensures err { IfErr result (λ back. (back ≡ v) × (self.new ≡ self.old)) }
         ensures room { pos 0 <ℤ self.old.spare → IsOk result }
@@ -256,7 +288,11 @@ impl Lanes {
     /// changes; never so while there is room to spare.
     pub fn push(&mut self, lane: u32, v: Stored) -> Result<(), Stored>
         requires { lane < 2 * axes self.old.dim }
-        ensures ok { OnOk result (self.new ≡ record self.old { lanes = slice_set self.old.lanes lane (lane_at self.old lane ++ v ∷ []); spare = self.new.spare; pushed = capped (self.old.pushed + 1) }) }
+        ensures ok { OnOk result (self.new ≡ record self.old {
+          lanes = slice_set self.old.lanes lane (lane_at self.old lane ++ v ∷ []);
+          spare = self.new.spare;
+          pushed = capped (self.old.pushed + 1);
+        }) }
         ensures spare { OnOk result (self.old.spare ≤ℤ (self.new.spare +ℤ pos 1)) }
         ensures err { IfErr result (λ back. (back ≡ v) × (self.new ≡ self.old)) }
         ensures room { pos 0 <ℤ self.old.spare → IsOk result }
@@ -281,8 +317,23 @@ impl Lanes {
     /// again. The note has the counts of the sweep, and the tale has the note. Takes no memory.
     pub fn turn(&mut self, step: u32, kind: Kind, tree: u32) -> SweepNote
         requires { IsDrained self.old }
-        ensures note { result ≡ record { step = step; kind = kind; tree = tree; taken = self.old.taken; put = self.old.put; pushed = self.old.pushed } }
-        ensures lists { self.new ≡ record self.old { input = reverse self.old.output; output = []; spare = self.new.spare; taken = 0; put = 0; pushed = 0; tale = with_note self.old.tale result } }
+        ensures note { result ≡ record {
+          step = step;
+          kind = kind;
+          tree = tree;
+          taken = self.old.taken;
+          put = self.old.put;
+          pushed = self.old.pushed;
+        } }
+        ensures lists { self.new ≡ record self.old {
+          input = reverse self.old.output;
+          output = [];
+          spare = self.new.spare;
+          taken = 0;
+          put = 0;
+          pushed = 0;
+          tale = with_note self.old.tale result;
+        } }
     {
         let note = SweepNote {
             step,
@@ -331,7 +382,9 @@ impl Lanes {
     pub fn set_slot(&mut self, k: u64, n: u32, slot: Slot)
         requires place { k < length self.old.input }
         requires slot { n < 8 }
-        ensures slot { IsSomeAnd (slice_get self.old.input k) (λ v. self.new ≡ record self.old { input = slice_set self.old.input k (with_slot v n slot) }) }
+        ensures slot { IsSomeAnd (slice_get self.old.input k) (λ v. self.new ≡ record self.old {
+          input = slice_set self.old.input k (with_slot v n slot);
+        }) }
         ensures eight { IsSomeAnd (slice_get self.old.input k) (λ v. length v.slots ≡ 8) }
     {
         let place = self.input.len() - 1 - k as usize;
