@@ -1,0 +1,5 @@
+pub mod Steps
+pub mod Axis
+pub mod Corners
+pub mod OneGrid
+pub mod TwoGrids
