@@ -3,3 +3,5 @@ pub mod Axis
 pub mod Corners
 pub mod OneGrid
 pub mod TwoGrids
+pub mod Anchors
+pub mod Across

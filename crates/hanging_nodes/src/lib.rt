@@ -5,5 +5,7 @@
 mod above;
 mod corner_in;
 pub mod laws;
+mod sides;
 
 pub use above::stored_here;
+pub use sides::sides_of;
