@@ -5,3 +5,4 @@ pub mod OneGrid
 pub mod TwoGrids
 pub mod Anchors
 pub mod Across
+pub mod Told

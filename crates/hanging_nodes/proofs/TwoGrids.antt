@@ -53,6 +53,9 @@ stay_not_split e = let n : 0 ≡ 1 = ap intent_code e in omega (arith, n)
 pub stay_not_merge : Stay ≡ Merge → ⊥
 stay_not_merge e = let n : 0 ≡ 2 = ap intent_code e in omega (arith, n)
 
+pub split_not_merge : Split ≡ Merge → ⊥
+split_not_merge e = let n : 1 ≡ 2 = ap intent_code e in omega (arith, n)
+
 pub leaf_not : (t : Spacetree) (q : CellKey) → is_leaf t q ≡ true → is_refined t q ≡ false
 leaf_not t q h = second_not (has_cell t q) (is_refined t q) h
   where

@@ -60,7 +60,7 @@ fn number_above(dim: Dim, cell: CellKey, fine: &VertexKey) -> u32
 
 // Whether the closed region of a cell holds a vertex of the next level.
 #[tactic(auto, using(peano_keys::proofs::Powers::pow3_by_12))]
-fn holds_vertex(dim: Dim, cell: CellKey, fine: &VertexKey) -> bool
+pub(crate) fn holds_vertex(dim: Dim, cell: CellKey, fine: &VertexKey) -> bool
     requires cell { IsCell dim cell }
     requires level { fine.now.level ≡ cell.level + 1 }
     ensures { IsTrue result ↔ HoldsVertex cell fine.now }
@@ -113,7 +113,7 @@ fn allows(question: Question, above: VertexKey, stored: &Stored, k: u32) -> bool
 }
 
 // How many corners a cell has.
-fn corner_count(dim: Dim) -> u32
+pub(crate) fn corner_count(dim: Dim) -> u32
     ensures { result ≡ corners dim }
 {
     match dim {

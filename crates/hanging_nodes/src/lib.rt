@@ -6,6 +6,8 @@ mod above;
 mod corner_in;
 pub mod laws;
 mod sides;
+#[cfg(test)]
+mod tests;
 
 pub use above::stored_here;
 pub use sides::sides_of;
