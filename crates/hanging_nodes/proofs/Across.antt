@@ -7,11 +7,10 @@ use Rattle.peano_keys.specs.declared.dim.Dim.TheVariants.{Two, Three}
 use Rattle.peano_keys.specs.declared.cell.CellKey.{CellKey}
 use Rattle.peano_keys.specs.declared.cell.Face.{Face}
 use Rattle.peano_keys.specs.declared.vertex.VertexKey.{VertexKey}
-use Rattle.peano_keys.specs.declared.side.Side.{Side}
 use Rattle.peano_keys.specs.declared.side.Side.TheVariants.{Same, Coarse}
 use Rattle.peano_keys.specs.Dim.{axes, corners}
 use Rattle.peano_keys.specs.Cell.{IsCell, parent_of, neighbour_of}
-use Rattle.peano_keys.specs.Vertex.{Touches, corner_of, adjacent_of, anchor_of, slot_from}
+use Rattle.peano_keys.specs.Vertex.{corner_of, adjacent_of, anchor_of, slot_from}
 use Rattle.peano_keys.specs.Grid.{Spacetree, IsStored, is_refined, has_cell}
 use Rattle.peano_keys.specs.Field.{States, state_at, centre_state, value_of, covering_state, side_at, side_of}
 use Rattle.peano_keys.specs.Laws.{opposite}

@@ -1,5 +1,5 @@
 -- The anchor of a cell across a face tells whether the neighbour is a cell, and the parents of both are one cell or neighbours.
-use Rattle.std.proofs.Common.{◌≡◌, ℕ, zero, suc, ◌+◌, ◌-◌, ◌*◌, ◌/◌, ◌^◌, ◌<◌, ◌≤◌, ◌⊎◌, inl, inr, Bool, true, false, Option, Some, refl, sym, ap, ◌∙◌, subst, arith, ⊎_elim}
+use Rattle.std.proofs.Common.{◌≡◌, ℕ, zero, suc, ◌+◌, ◌-◌, ◌*◌, ◌/◌, ◌^◌, ◌<◌, ◌⊎◌, inl, inr, Bool, true, false, Some, refl, sym, ap, ◌∙◌, subst, arith, ⊎_elim}
 use Rattle.peano_keys.specs.declared.dim.Dim.{Dim}
 use Rattle.peano_keys.specs.declared.dim.Dim.TheVariants.{Two, Three}
 use Rattle.peano_keys.specs.declared.cell.CellKey.{CellKey}
@@ -7,15 +7,15 @@ use Rattle.peano_keys.specs.declared.cell.Face.{Face}
 use Rattle.peano_keys.specs.declared.vertex.VertexKey.{VertexKey}
 use Rattle.peano_keys.specs.Dim.{axes, corners}
 use Rattle.peano_keys.specs.Cell.{IsCell, at, triple, parent_of, neighbour_of}
-use Rattle.peano_keys.specs.Vertex.{Touches, plane, corner_of, adjacent_of, slot_from, anchor_of, anchor_bit, number_of}
-use Rattle.peano_keys.specs.Grid.{Spacetree, IsStored, is_refined, has_cell}
+use Rattle.peano_keys.specs.Vertex.{Touches, corner_of, adjacent_of, slot_from, anchor_of}
+use Rattle.peano_keys.specs.Grid.{Spacetree, IsStored, has_cell}
 use Rattle.peano_keys.specs.Field.{face_on}
 use Rattle.peano_keys.specs.Laws.{opposite}
 use Rattle.peano_keys.proofs.Bits.{number_below}
 use Rattle.peano_keys.proofs.Positions.{cell_stands_in_slot}
 use Rattle.peano_keys.proofs.Faces.{Next, with_x, placed, neighbour_next, next_neighbour}
-use Rattle.peano_keys.proofs.Anchors.{bit_small, neighbours_share_anchor, anchor_is_stored}
-use Rattle.hanging_nodes.proofs.OneGrid.{pow3_back, there_by_parent}
+use Rattle.peano_keys.proofs.Anchors.{bit_small, neighbours_share_anchor}
+use Rattle.hanging_nodes.proofs.OneGrid.{pow3_back}
 
 next_below : (up : Bool) (e x y : ℕ) → x < e → Next up e x y → y < e
 next_below true e x y h n = n.1

@@ -1,28 +1,24 @@
 -- Laws of storedness and sides from above.
-use Rattle.std.proofs.Common.{◌≡◌, ◌↔◌, ℕ, ◌+◌, ◌-◌, ◌*◌, ◌/◌, ◌^◌, ◌<◌, ◌≤◌, ◌==◌, if◌then◌else◌, Bool, true, false, inl, inr, Some, List, [], ◌∷◌, slice_index, refl, sym, ap, ◌∙◌, subst, arith}
+use Rattle.std.proofs.Common.{◌≡◌, ◌↔◌, ℕ, ◌+◌, ◌*◌, ◌^◌, ◌<◌, ◌≤◌, ◌==◌, if◌then◌else◌, Bool, true, false, inl, Some, List, slice_index, refl, sym, ap, ◌∙◌, subst, arith}
 use Rattle.std.specs.Prelude.{IfSome, Option}
 use Rattle.std.proofs.lemmas.Bool.{false≢true}
 use Rattle.std.proofs.lemmas.Bool.Decides.{nat_tests}
 use Rattle.peano_keys.specs.declared.dim.Dim.{Dim}
 use Rattle.peano_keys.specs.declared.dim.Dim.TheVariants.{Two, Three}
 use Rattle.peano_keys.specs.declared.cell.CellKey.{CellKey}
-use Rattle.peano_keys.specs.declared.vertex.VertexKey.{VertexKey}
-use Rattle.peano_keys.specs.Dim.{corners, third_end, third_extent}
-use Rattle.peano_keys.specs.Cell.{IsCell, IsDigits, at, triple, child_of, centre_child, centre_digits, parent_of}
+use Rattle.peano_keys.specs.Dim.{corners, third_extent}
+use Rattle.peano_keys.specs.Cell.{IsCell, IsDigits, at, child_of, centre_child, centre_digits}
 use Rattle.peano_keys.specs.Vertex.{Touches, plane, corner_of, adjacent_of, number_of}
-use Rattle.peano_keys.specs.Grid.{Spacetree, IsStored, is_refined, has_cell}
+use Rattle.peano_keys.specs.Grid.{Spacetree, is_refined, has_cell}
 use Rattle.peano_keys.proofs.Positions.{same_cell, position, position_below, at_position, adjacent_touches}
 use Rattle.peano_keys.proofs.Anchors.{anchor_is_stored, corner_by_bits, vertex_by}
 use Rattle.peano_keys.proofs.Bits.{number_below}
 use Rattle.peano_records.specs.declared.slot.Slot.{Slot}
-use Rattle.peano_records.specs.declared.slot.Status.{Status}
-use Rattle.peano_records.specs.declared.slot.Status.TheVariants.{Unset, Outside, Leaf, Refined}
-use Rattle.peano_records.specs.declared.slot.Intent.{Intent}
-use Rattle.peano_records.specs.declared.slot.Intent.TheVariants.{Stay, Split, Merge}
+use Rattle.peano_records.specs.declared.slot.Status.TheVariants.{Refined}
+use Rattle.peano_records.specs.declared.slot.Intent.TheVariants.{Split, Merge}
 use Rattle.peano_records.specs.AtRest.{status_of, intent_between, HoldsIntent}
 use Rattle.peano_records.specs.Slots.{slot_at}
 use Rattle.peano_records.specs.Tells.{says_refined}
-use Rattle.hanging_nodes.specs.Above.{HoldsVertex}
 use Rattle.hanging_nodes.specs.Views.{IsOldSlot}
 use Rattle.hanging_nodes.specs.Laws.{ChildCornersHeld, StorednessFromAbove, NextStandsOnOld, AnchorTellsNeighbour, CentreIsStored, SiblingsRoundCentre, RestIsShown}
 use Rattle.hanging_nodes.proofs.OneGrid.{stored_refined, refined_stored, there_stored, pow3_next, cell_by}

@@ -1,19 +1,18 @@
 -- Laws of storedness and sides from above.
-use Rattle.std.specs.Prelude.{◌≡◌, ◌↔◌, ℕ, ◌<◌, Bool, true, List, Some, length, Option}
+use Rattle.std.specs.Prelude.{◌≡◌, ◌↔◌, ℕ, ◌<◌, Bool, true, List, Some}
 use Rattle.peano_keys.specs.declared.dim.Dim.{Dim}
 use Rattle.peano_keys.specs.declared.cell.CellKey.{CellKey}
 use Rattle.peano_keys.specs.declared.cell.Face.{Face}
 use Rattle.peano_keys.specs.declared.vertex.VertexKey.{VertexKey}
 use Rattle.peano_keys.specs.Dim.{axes, corners}
 use Rattle.peano_keys.specs.Cell.{IsCell, IsDigits, child_of, centre_child, neighbour_of}
-use Rattle.peano_keys.specs.Vertex.{IsVertex, Touches, corner_of, anchor_of}
+use Rattle.peano_keys.specs.Vertex.{IsVertex, corner_of, anchor_of}
 use Rattle.peano_keys.specs.Grid.{Spacetree, IsGrid, IsStored, is_refined, has_cell}
 use Rattle.peano_keys.specs.Laws.{StandsAt}
-use Rattle.peano_records.specs.declared.view.CellView.{CellView}
 use Rattle.peano_records.specs.Slots.{VertexRecord}
 use Rattle.peano_records.specs.AtRest.{IsBeforeAdapting}
 use Rattle.hanging_nodes.specs.Above.{HoldsVertex, corner_above, DecidersRefined}
-use Rattle.hanging_nodes.specs.Views.{AreOldAndNew, AreGrids, HasSlots, Shows}
+use Rattle.hanging_nodes.specs.Views.{AreOldAndNew, HasSlots}
 
 -- the closed region of a cell holds each corner of each of its children
 abbrev pub ChildCornersHeld : Type 0

@@ -36,20 +36,21 @@ fn slot(cell: CellKey, status: Status) -> Slot {
 
 // What the slot of a cell says.
 fn slot_in(scene: Scene, cell: CellKey) -> Slot {
-    match (scene, cell.level, cell.x) {
-        (_, 0, _) => slot(cell, Status::Refined),
-        (Scene::ThreeLevels, 1, [0, 0, 0]) => slot(cell, Status::Refined),
-        (Scene::ThreeLevels, 2, [2, 0, 0]) => slot(cell, Status::Refined),
-        (Scene::Step, 1, [1, 1, 0]) => Slot {
+    let [a, b, _] = cell.x;
+    match (scene, cell.level, a, b) {
+        (_, 0, _, _) => slot(cell, Status::Refined),
+        (Scene::ThreeLevels, 1, 0, 0) => slot(cell, Status::Refined),
+        (Scene::ThreeLevels, 2, 2, 0) => slot(cell, Status::Refined),
+        (Scene::Step, 1, 1, 1) => Slot {
             intent: Intent::Merge,
             ..slot(cell, Status::Refined)
         },
-        (Scene::Step, 1, [0, 1, 0]) => Slot {
+        (Scene::Step, 1, 0, 1) => Slot {
             intent: Intent::Split,
             ..slot(cell, Status::Leaf)
         },
         // A visitor may have written this of a leaf; it stands inside the domain all the same.
-        (Scene::Step, 1, [0, 0, 0]) => slot(cell, Status::Outside),
+        (Scene::Step, 1, 0, 0) => slot(cell, Status::Outside),
         _ => slot(cell, Status::Leaf),
     }
 }
@@ -120,6 +121,7 @@ fn edges() -> Sides {
 }
 
 const NONE_HANGS: [bool; 8] = [false; 8];
+
 const HIGH_FIRST_HANGS: [bool; 8] = [false, true, false, true, false, false, false, false];
 
 #[test]
@@ -127,30 +129,190 @@ fn stored_vertices_from_above(rt: HostRuntime) {
     // A cell, which of its corners hang, a vertex of its children, and whether it is stored before and after.
     for (scene, level, x, hanging, v, before, after) in [
         // a refined root: all vertices of level 1
-        (Scene::ThreeLevels, 0, [0, 0, 0], NONE_HANGS, [0, 0, 0], true, true),
-        (Scene::ThreeLevels, 0, [0, 0, 0], NONE_HANGS, [3, 3, 0], true, true),
-        (Scene::ThreeLevels, 0, [0, 0, 0], NONE_HANGS, [1, 2, 0], true, true),
+        (
+            Scene::ThreeLevels,
+            0,
+            [0, 0, 0],
+            NONE_HANGS,
+            [0, 0, 0],
+            true,
+            true,
+        ),
+        (
+            Scene::ThreeLevels,
+            0,
+            [0, 0, 0],
+            NONE_HANGS,
+            [3, 3, 0],
+            true,
+            true,
+        ),
+        (
+            Scene::ThreeLevels,
+            0,
+            [0, 0, 0],
+            NONE_HANGS,
+            [1, 2, 0],
+            true,
+            true,
+        ),
         // at the domain's corner, with leaves on two sides
-        (Scene::ThreeLevels, 1, [0, 0, 0], NONE_HANGS, [0, 2, 0], true, true),
-        (Scene::ThreeLevels, 1, [0, 0, 0], NONE_HANGS, [2, 2, 0], true, true),
-        (Scene::ThreeLevels, 1, [0, 0, 0], NONE_HANGS, [3, 1, 0], false, false),
-        (Scene::ThreeLevels, 1, [0, 0, 0], NONE_HANGS, [3, 3, 0], false, false),
+        (
+            Scene::ThreeLevels,
+            1,
+            [0, 0, 0],
+            NONE_HANGS,
+            [0, 2, 0],
+            true,
+            true,
+        ),
+        (
+            Scene::ThreeLevels,
+            1,
+            [0, 0, 0],
+            NONE_HANGS,
+            [2, 2, 0],
+            true,
+            true,
+        ),
+        (
+            Scene::ThreeLevels,
+            1,
+            [0, 0, 0],
+            NONE_HANGS,
+            [3, 1, 0],
+            false,
+            false,
+        ),
+        (
+            Scene::ThreeLevels,
+            1,
+            [0, 0, 0],
+            NONE_HANGS,
+            [3, 3, 0],
+            false,
+            false,
+        ),
         // two corners hang
-        (Scene::ThreeLevels, 2, [2, 0, 0], HIGH_FIRST_HANGS, [7, 1, 0], true, true),
-        (Scene::ThreeLevels, 2, [2, 0, 0], HIGH_FIRST_HANGS, [8, 0, 0], true, true),
-        (Scene::ThreeLevels, 2, [2, 0, 0], HIGH_FIRST_HANGS, [6, 1, 0], false, false),
-        (Scene::ThreeLevels, 2, [2, 0, 0], HIGH_FIRST_HANGS, [7, 3, 0], false, false),
-        (Scene::ThreeLevels, 2, [2, 0, 0], HIGH_FIRST_HANGS, [9, 1, 0], false, false),
+        (
+            Scene::ThreeLevels,
+            2,
+            [2, 0, 0],
+            HIGH_FIRST_HANGS,
+            [7, 1, 0],
+            true,
+            true,
+        ),
+        (
+            Scene::ThreeLevels,
+            2,
+            [2, 0, 0],
+            HIGH_FIRST_HANGS,
+            [8, 0, 0],
+            true,
+            true,
+        ),
+        (
+            Scene::ThreeLevels,
+            2,
+            [2, 0, 0],
+            HIGH_FIRST_HANGS,
+            [6, 1, 0],
+            false,
+            false,
+        ),
+        (
+            Scene::ThreeLevels,
+            2,
+            [2, 0, 0],
+            HIGH_FIRST_HANGS,
+            [7, 3, 0],
+            false,
+            false,
+        ),
+        (
+            Scene::ThreeLevels,
+            2,
+            [2, 0, 0],
+            HIGH_FIRST_HANGS,
+            [9, 1, 0],
+            false,
+            false,
+        ),
         // the centre merges: its inner vertices go, and those on its faces were never stored
-        (Scene::Step, 1, [1, 1, 0], NONE_HANGS, [4, 4, 0], true, false),
-        (Scene::Step, 1, [1, 1, 0], NONE_HANGS, [5, 4, 0], true, false),
-        (Scene::Step, 1, [1, 1, 0], NONE_HANGS, [3, 4, 0], false, false),
-        (Scene::Step, 1, [1, 1, 0], NONE_HANGS, [6, 6, 0], false, false),
+        (
+            Scene::Step,
+            1,
+            [1, 1, 0],
+            NONE_HANGS,
+            [4, 4, 0],
+            true,
+            false,
+        ),
+        (
+            Scene::Step,
+            1,
+            [1, 1, 0],
+            NONE_HANGS,
+            [5, 4, 0],
+            true,
+            false,
+        ),
+        (
+            Scene::Step,
+            1,
+            [1, 1, 0],
+            NONE_HANGS,
+            [3, 4, 0],
+            false,
+            false,
+        ),
+        (
+            Scene::Step,
+            1,
+            [1, 1, 0],
+            NONE_HANGS,
+            [6, 6, 0],
+            false,
+            false,
+        ),
         // a leaf beside it splits: its inner vertices come, and those on the domain's edge
-        (Scene::Step, 1, [0, 1, 0], NONE_HANGS, [1, 4, 0], false, true),
-        (Scene::Step, 1, [0, 1, 0], NONE_HANGS, [0, 5, 0], false, true),
-        (Scene::Step, 1, [0, 1, 0], NONE_HANGS, [0, 3, 0], false, false),
-        (Scene::Step, 1, [0, 1, 0], NONE_HANGS, [3, 4, 0], false, false),
+        (
+            Scene::Step,
+            1,
+            [0, 1, 0],
+            NONE_HANGS,
+            [1, 4, 0],
+            false,
+            true,
+        ),
+        (
+            Scene::Step,
+            1,
+            [0, 1, 0],
+            NONE_HANGS,
+            [0, 5, 0],
+            false,
+            true,
+        ),
+        (
+            Scene::Step,
+            1,
+            [0, 1, 0],
+            NONE_HANGS,
+            [0, 3, 0],
+            false,
+            false,
+        ),
+        (
+            Scene::Step,
+            1,
+            [0, 1, 0],
+            NONE_HANGS,
+            [3, 4, 0],
+            false,
+            false,
+        ),
     ] {
         let key = CellKey { level, x };
         assert!(rt; is_cell(Dim::Two, &key));
@@ -162,8 +324,16 @@ fn stored_vertices_from_above(rt: HostRuntime) {
         assert!(rt; is_vertex(Dim::Two, &fine));
         assert!(rt; holds_vertex(Dim::Two, key, &fine));
         let parent = view(Dim::Two, key, scene, hanging, edges());
-        assert_eq!(rt; stored_here(Dim::Two, &parent, &fine, false), before, "{key:?} {v:?}");
-        assert_eq!(rt; stored_here(Dim::Two, &parent, &fine, true), after, "{key:?} {v:?}");
+        assert_eq!(rt;
+            stored_here(Dim::Two, &parent, &fine, false),
+            before,
+            "{key:?} {v:?}"
+        );
+        assert_eq!(rt;
+            stored_here(Dim::Two, &parent, &fine, true),
+            after,
+            "{key:?} {v:?}"
+        );
     }
 }
 

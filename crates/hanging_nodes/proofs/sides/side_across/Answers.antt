@@ -1,4 +1,4 @@
-use Rattle.std.proofs.Common.{◌≡◌, ◌∙◌, sym, ap}
+use Rattle.std.proofs.Common.{◌∙◌, sym, ap}
 use Rattle.std.specs.Prelude.{slice_index_or}
 use Rattle.peano_keys.specs.Vertex.{anchor_of, slot_from}
 use Rattle.peano_keys.specs.declared.side.Side.TheVariants.{Same}
