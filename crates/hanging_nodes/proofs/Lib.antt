@@ -6,3 +6,4 @@ pub mod TwoGrids
 pub mod Anchors
 pub mod Across
 pub mod Told
+pub mod Exist

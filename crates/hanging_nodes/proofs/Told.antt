@@ -125,7 +125,7 @@ merges_are true true = ((λ e. absurd (stay_not_merge e)), (λ e. absurd (false�
 merges_are false false = ((λ e. absurd (stay_not_merge e)), (λ e. absurd (false≢true e.0)))
 merges_are false true = ((λ e. absurd (split_not_merge e)), (λ e. absurd (false≢true e.0)))
 
-refined_is : (a : Bool) → (status_of a ≡ Refined) ↔ (a ≡ true)
+pub refined_is : (a : Bool) → (status_of a ≡ Refined) ↔ (a ≡ true)
 refined_is true = ((λ e. refl), (λ e. refl))
 refined_is false = ((λ e. ap says_refined e), (λ e. absurd (false≢true e)))
 

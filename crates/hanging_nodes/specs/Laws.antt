@@ -1,5 +1,5 @@
 -- Laws of storedness and sides from above.
-use Rattle.std.specs.Prelude.{◌≡◌, ◌↔◌, ℕ, ◌<◌, Bool, true, List, Some}
+use Rattle.std.specs.Prelude.{◌≡◌, ◌↔◌, ℕ, ◌<◌, Bool, true, List, Some, length, Option}
 use Rattle.peano_keys.specs.declared.dim.Dim.{Dim}
 use Rattle.peano_keys.specs.declared.cell.CellKey.{CellKey}
 use Rattle.peano_keys.specs.declared.cell.Face.{Face}
@@ -9,10 +9,11 @@ use Rattle.peano_keys.specs.Cell.{IsCell, IsDigits, child_of, centre_child, neig
 use Rattle.peano_keys.specs.Vertex.{IsVertex, corner_of, anchor_of}
 use Rattle.peano_keys.specs.Grid.{Spacetree, IsGrid, IsStored, is_refined, has_cell}
 use Rattle.peano_keys.specs.Laws.{StandsAt}
+use Rattle.peano_records.specs.declared.view.CellView.{CellView}
 use Rattle.peano_records.specs.Slots.{VertexRecord}
 use Rattle.peano_records.specs.AtRest.{IsBeforeAdapting}
 use Rattle.hanging_nodes.specs.Above.{HoldsVertex, corner_above, DecidersRefined}
-use Rattle.hanging_nodes.specs.Views.{AreOldAndNew, HasSlots}
+use Rattle.hanging_nodes.specs.Views.{AreOldAndNew, AreGrids, HasSlots, Shows}
 
 -- the closed region of a cell holds each corner of each of its children
 abbrev pub ChildCornersHeld : Type 0
@@ -41,3 +42,7 @@ SiblingsRoundCentre = (dim : Dim) (c : CellKey) (k : List ℕ) → IsCell dim c 
 -- a record before an adaptation has the slots that both grids ask for
 abbrev pub RestIsShown : Type 0
 RestIsShown = (dim : Dim) (old new : Spacetree) (after : Bool) (s : VertexRecord) → old.dim ≡ dim → IsVertex dim s.key → IsStored old s.key → IsBeforeAdapting old new s → HasSlots dim (Some old) new after s.key s
+
+-- for all grids of a sweep and each cell of the domain there is a view of the cell that shows them
+abbrev pub ViewsExist : Type 0
+ViewsExist = (depth : ℕ) (dim : Dim) (old : Option Spacetree) (new : Spacetree) (after : Bool) (c : CellKey) → AreGrids depth dim old new after → IsCell dim c → (view : CellView) × (view.key ≡ c) × (length view.corners ≡ 8) × Shows dim old new after view

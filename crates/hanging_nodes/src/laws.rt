@@ -1,5 +1,5 @@
 //! Laws of storedness and sides from above, each for all grids and cells of both dimensions.
-ghost use Rattle.hanging_nodes.specs.Laws.{ChildCornersHeld, StorednessFromAbove, NextStandsOnOld, AnchorTellsNeighbour, CentreIsStored, SiblingsRoundCentre, RestIsShown};
+ghost use Rattle.hanging_nodes.specs.Laws.{ChildCornersHeld, StorednessFromAbove, NextStandsOnOld, AnchorTellsNeighbour, CentreIsStored, SiblingsRoundCentre, RestIsShown, ViewsExist};
 
 /// The closed region of a cell holds each corner of each of its children.
 pub fn child_corners_are_held()
@@ -35,4 +35,9 @@ pub fn siblings_stand_round_centre()
 /// A record before an adaptation has the slots that `stored_here` asks for.
 pub fn rest_is_shown()
     ensures { RestIsShown }
+{}
+
+/// For all grids of a sweep and each cell there is a view that shows them, so the condition of `stored_here` can be met.
+pub fn views_exist()
+    ensures { ViewsExist }
 {}
