@@ -1,0 +1,4 @@
+pub mod Above
+pub mod Views
+pub mod Sides
+pub mod Laws
