@@ -23,6 +23,7 @@ use Rattle.peano_records.specs.declared.view.Corner.TheVariants.{Vertex, Hanging
 use Rattle.peano_records.specs.declared.view.CellView.{CellView}
 use Rattle.peano_records.specs.Slots.{VertexRecord, blank}
 use Rattle.peano_records.specs.AtRest.{status_of, intent_between, SaysOfCells}
+use Rattle.peano_records.proofs.Intents.{below_eight}
 use Rattle.hanging_nodes.specs.Views.{AreGrids, IsOldSlot, IsNewSlot, IsFirstSlot, IsShown, Shows}
 use Rattle.hanging_nodes.specs.Laws.{ViewsExist}
 use Rattle.hanging_nodes.proofs.TwoGrids.{next_dim}
@@ -48,10 +49,6 @@ eight_at f d (suc (suc (suc (suc (suc zero))))) h = refl
 eight_at f d (suc (suc (suc (suc (suc (suc zero)))))) h = refl
 eight_at f d (suc (suc (suc (suc (suc (suc (suc zero))))))) h = refl
 eight_at f d (suc (suc (suc (suc (suc (suc (suc (suc n)))))))) h = absurd (omega (arith, h))
-
-below_eight : (dim : Dim) (n : ℕ) → n < corners dim → n < 8
-below_eight Two n h = omega (arith, h)
-below_eight Three n h = h
 
 -- a Boolean test holds below a number, or fails at one
 all_or_one : (b : ℕ → Bool) (m : ℕ) → ((k : ℕ) → k < m → b k ≡ true) ⊎ ((k : ℕ) × (k < m) × (b k ≡ false))
