@@ -13,6 +13,7 @@ use Rattle.stack_walks.specs.Streams.{taken_in, given_out}
 use Rattle.stack_law.specs.Walk.{IsEmpty, ClosedAreEmpty, HappensAtVisited}
 use Rattle.stack_walks.specs.Grids.{is_in_grid, cells_of, IsStored, both_hold, one_holds}
 use Rattle.stack_walks.specs.Instances.{lane_events, KeptVerticesUseStacks, OneGridUsesStacks, TwoGridsUseStacks, GridsAreClosed, NextWalkReadsTheOutput}
+use Rattle.stack_walks.specs.Visited.{OneGridIsUnbroken, TwoGridsAreUnbroken}
 use Rattle.stack_law.specs.Domain.{root}
 use Rattle.stack_law.proofs.Ways.{merged_column}
 use Rattle.stack_walks.proofs.Corners.{no_flat, corners_pass_along_lanes}
@@ -114,21 +115,27 @@ two_closed axis is_cell splits old new m b k l c e =
 pub grids_are_closed : GridsAreClosed
 grids_are_closed = (grid_closed, two_closed)
 
+pub one_grid_is_unbroken : OneGridIsUnbroken
+one_grid_is_unbroken dir axis is_cell splits cells kept stored m v c l k = stored_unbroken (rank dir axis (splits - m) m) (extent axis (splits - m) m) (cells m) v (stored m v c l k)
+
+pub two_grids_are_unbroken : TwoGridsAreUnbroken
+two_grids_are_unbroken dir axis is_cell splits old new kept stored m v c l k = stored_unbroken (rank dir axis (splits - m) m) (extent axis (splits - m) m) (one_holds old new m) v (in_one (stored m v c l k))
+  where
+    in_one : IsStored (extent axis (splits - m) m) (old m) v ⊎ IsStored (extent axis (splits - m) m) (new m) v → IsStored (extent axis (splits - m) m) (one_holds old new m) v
+    in_one (inl s) b inside touching = either (old m b) (new m b) (inl (s b inside touching))
+    in_one (inr s) b inside touching = either (old m b) (new m b) (inr (s b inside touching))
+
 pub one_grid_uses_stacks : OneGridUsesStacks
 one_grid_uses_stacks dir axis is_cell splits refined kept stored =
     kept_vertices_use_stacks dir axis is_cell splits (cells_of axis is_cell splits refined) refined kept
-    (λ m v c l k. stored_unbroken (rank dir axis (splits - m) m) (extent axis (splits - m) m) (cells_of axis is_cell splits refined m) v (stored m v c l k))
+    (one_grid_is_unbroken dir axis is_cell splits (cells_of axis is_cell splits refined) kept stored)
     (grid_closed axis is_cell splits refined)
 
 pub two_grids_use_stacks : TwoGridsUseStacks
 two_grids_use_stacks dir axis is_cell splits old new kept stored =
     kept_vertices_use_stacks dir axis is_cell splits (one_holds (cells_of axis is_cell splits old) (cells_of axis is_cell splits new)) (one_holds old new) kept
-    (λ m v c l k. stored_unbroken (rank dir axis (splits - m) m) (extent axis (splits - m) m) (one_holds (cells_of axis is_cell splits old) (cells_of axis is_cell splits new) m) v (in_one m v (stored m v c l k)))
+    (two_grids_are_unbroken dir axis is_cell splits (cells_of axis is_cell splits old) (cells_of axis is_cell splits new) kept stored)
     (two_closed axis is_cell splits old new)
-  where
-    in_one : (m : ℕ) (v : Box) → IsStored (extent axis (splits - m) m) (cells_of axis is_cell splits old m) v ⊎ IsStored (extent axis (splits - m) m) (cells_of axis is_cell splits new m) v → IsStored (extent axis (splits - m) m) (one_holds (cells_of axis is_cell splits old) (cells_of axis is_cell splits new) m) v
-    in_one m v (inl s) b inside touching = either (cells_of axis is_cell splits old m b) (cells_of axis is_cell splits new m b) (inl (s b inside touching))
-    in_one m v (inr s) b inside touching = either (cells_of axis is_cell splits old m b) (cells_of axis is_cell splits new m b) (inr (s b inside touching))
 
 pub next_walk_reads_the_output : (A : Type 0) → NextWalkReadsTheOutput A
 next_walk_reads_the_output A name dir axis is_cell splits visited is_open visited' is_open' kept closed closed' agree =

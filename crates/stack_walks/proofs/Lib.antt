@@ -13,3 +13,6 @@ pub mod Ends
 pub mod RunLengths
 pub mod Sums
 pub mod StoredTest
+pub mod Rights
+pub mod Visited
+pub mod Reversed

@@ -7,6 +7,7 @@ use Rattle.stack_law.specs.Order.{rank, counted}
 use Rattle.stack_law.specs.Walk.{IsEmpty}
 use Rattle.stack_walks.specs.Grids.{meets_range, both_hold}
 use Rattle.stack_walks.specs.Instances.{RangesUseStacks, RangeTestIsExact}
+use Rattle.stack_walks.specs.Visited.{RangesAreUnbroken, RangesAreClosed}
 use Rattle.stack_law.proofs.Ways.{finer_column, counted_below, digit_below}
 use Rattle.stack_law.proofs.Digits.{backward_is_reversed}
 use Rattle.stack_walks.proofs.GivenCorners.{and_true}
@@ -72,11 +73,22 @@ module _ (axis : ℕ → Axis) (splits start stop : ℕ) where
   not_held_empty is_cell zero b l e = (λ c. e)
   not_held_empty is_cell (suc m) b l e = ((λ c. e), (λ k. not_held_empty is_cell m (column (axis (suc m)) k b) (omega arith) (part_not_held m k b (omega arith) e)))
 
+pub ranges_are_unbroken : RangesAreUnbroken
+ranges_are_unbroken dir axis is_cell splits start stop cells kept stored m v c l k a b d va vb inside touching p q =
+    and_both _ _ (stored m v c l k d inside touching) (held_between axis splits start stop dir m a d b (and_true (cells m a) _ va.2).1 (and_true (cells m b) _ vb.2).1 p q)
+
+pub ranges_are_closed : RangesAreClosed
+ranges_are_closed axis is_cell splits start stop cells is_open closed m b k l c e =
+    ⊎_elim (λ f. empty_left axis is_cell cells in_range m (column (axis (suc m)) k b) (closed m b k l c f)) (λ f. empty_right axis is_cell cells in_range m (column (axis (suc m)) k b) (not_held_empty axis splits start stop is_cell m (column (axis (suc m)) k b) (omega arith) (part_not_held axis splits start stop m k b l f))) (not_two (is_open (suc m) b) (in_range (suc m) b) e)
+  where
+    in_range : ℕ → Box → Bool
+    in_range = meets_range axis splits start stop
+
 pub ranges_use_stacks : RangesUseStacks
 ranges_use_stacks dir axis is_cell splits start stop cells is_open kept stored closed =
     kept_vertices_use_stacks dir axis is_cell splits (both_hold cells in_range) (both_hold is_open in_range) kept
-    (λ m v c l k a b d va vb inside touching p q. and_both _ _ (stored m v c l k d inside touching) (held_between axis splits start stop dir m a d b (and_true (cells m a) _ va.2).1 (and_true (cells m b) _ vb.2).1 p q))
-    (λ m b k l c e. ⊎_elim (λ f. empty_left axis is_cell cells in_range m (column (axis (suc m)) k b) (closed m b k l c f)) (λ f. empty_right axis is_cell cells in_range m (column (axis (suc m)) k b) (not_held_empty axis splits start stop is_cell m (column (axis (suc m)) k b) (omega arith) (part_not_held axis splits start stop m k b l f))) (not_two (is_open (suc m) b) (in_range (suc m) b) e))
+    (ranges_are_unbroken dir axis is_cell splits start stop cells kept stored)
+    (ranges_are_closed axis is_cell splits start stop cells is_open closed)
   where
     in_range : ℕ → Box → Bool
     in_range = meets_range axis splits start stop

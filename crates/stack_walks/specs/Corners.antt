@@ -1,5 +1,5 @@
 -- What cells pass to each other, corner by corner.
-use Rattle.std.specs.Prelude.{◌≡◌, ℕ, ◌+◌, ◌-◌, ◌<◌, ◌≤◌, Bool, true, ◌&&◌, ◌↔◌, if◌then◌else◌, List, [], ◌∷◌, reverse, flat_map, ◌*◌}
+use Rattle.std.specs.Prelude.{◌≡◌, ℕ, ◌+◌, ◌-◌, ◌<◌, ◌≤◌, Bool, true, ◌&&◌, ◌↔◌, if◌then◌else◌, List, [], ◌∷◌, reverse, flat_map}
 use Rattle.stack_law.specs.Boxes.{same_side, Axis, Side, Box, first, second, third, low, high, opposite, size, coord, beyond, lane, Direction}
 use Rattle.stack_law.specs.Visits.{Visit, enter, leave}
 use Rattle.stack_law.specs.Stack.{Event, push, pop}
@@ -21,11 +21,7 @@ corner s0 s1 s2 = record { s0 = s0; s1 = s1; s2 = s2 }
 abbrev pub same_corner : Corner → Corner → Bool
 same_corner c d = same_side c.s0 d.s0 && (same_side c.s1 d.s1 && same_side c.s2 d.s2)
 
--- bit i of a corner's number is its side on axis i
-abbrev pub corner_number : Corner → ℕ
-corner_number c = size c.s0 + (2 * size c.s1 + 4 * size c.s2)
-
--- the corners of a cell by rising number; in the plane those with a high third side lie on no kept vertex
+-- the corners of a cell by rising number, of which bit i is the side on axis i; in the plane those with a high third side lie on no kept vertex
 abbrev pub all_corners : List Corner
 all_corners = corner low low low ∷ (corner high low low ∷ (corner low high low ∷ (corner high high low ∷ (corner low low high ∷ (corner high low high ∷ (corner low high high ∷ (corner high high high ∷ [])))))))
 

@@ -8,5 +8,6 @@ pub mod StreamLaws
 pub mod Grids
 pub mod Fluxes
 pub mod Instances
+pub mod Visited
 pub mod Counts
 pub mod Checks

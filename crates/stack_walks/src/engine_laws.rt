@@ -2,6 +2,7 @@
 
 ghost use Rattle.stack_walks.specs.Instances.{KeptVerticesUseStacks, OneGridUsesStacks, TwoGridsUseStacks, RangesUseStacks, FluxesUseStacks, GridsAreClosed, RangeTestIsExact, StoredTestIsExact, NextWalkReadsTheOutput};
 ghost use Rattle.stack_walks.specs.StreamLaws.{OutputTurnedIsInput};
+ghost use Rattle.stack_walks.specs.Visited.{OneGridIsUnbroken, TwoGridsAreUnbroken, RangesAreUnbroken, RangesAreClosed, WalksAgreeRoundKept, VisitsHappenOnce};
 
 /// A walk passes each kept vertex by stacks, where the visited cells are unbroken round it.
 pub fn kept_vertices_use_stacks()
@@ -51,4 +52,34 @@ pub fn output_turned_is_input<T>()
 /// The same of walks of some cells alone.
 pub fn next_walk_reads_the_output<T>()
     ensures { NextWalkReadsTheOutput T }
+{}
+
+/// Round a kept vertex the visited cells are unbroken where all cells of a grid are visited.
+pub fn one_grid_is_unbroken()
+    ensures { OneGridIsUnbroken }
+{}
+
+/// So they are where the cells of an old or a new grid are visited.
+pub fn two_grids_are_unbroken()
+    ensures { TwoGridsAreUnbroken }
+{}
+
+/// So they are where those cells alone are visited that a range holds.
+pub fn ranges_are_unbroken()
+    ensures { RangesAreUnbroken }
+{}
+
+/// Below a cell that is closed, or that the range does not hold, no visited cell lies.
+pub fn ranges_are_closed()
+    ensures { RangesAreClosed }
+{}
+
+/// Walks of the old grid, of both grids and of the new grid visit the same cells round the vertices that they hand on.
+pub fn walks_agree_round_kept()
+    ensures { WalksAgreeRoundKept }
+{}
+
+/// A walk of some cells enters no cell twice, and leaves none twice.
+pub fn visits_happen_once()
+    ensures { VisitsHappenOnce }
 {}

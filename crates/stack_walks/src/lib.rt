@@ -4,6 +4,5 @@
 
 pub mod checks;
 pub mod corner_laws;
-pub mod corner_order;
 pub mod count_laws;
 pub mod engine_laws;

@@ -1,0 +1,4 @@
+pub mod Streams
+pub mod Records
+pub mod Counts
+pub mod Checks

@@ -1,0 +1,17 @@
+pub mod Places
+pub mod Walks
+pub mod Keyed
+pub mod Closed
+pub mod Parents
+pub mod Tests
+pub mod Kept
+pub mod Next
+pub mod Followers
+pub mod Corners
+pub mod Events
+pub mod Sweeps
+pub mod Same
+pub mod Lanes
+pub mod Moments
+pub mod Ways
+pub mod Sanity
