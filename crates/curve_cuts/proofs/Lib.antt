@@ -1,0 +1,10 @@
+pub mod Cuts
+pub mod Halving
+pub mod Shares
+pub mod Shared
+pub mod Filled
+pub mod Leaves
+pub mod Nested
+pub mod Above
+pub mod Tiling
+pub mod Apart

@@ -1,0 +1,7 @@
+pub mod Cuts
+pub mod Foreign
+pub mod Keys
+pub mod Leaves
+pub mod Tiles
+pub mod Enclave
+pub mod Laws

@@ -1,0 +1,12 @@
+//! Trees cut along the curve: which positions each has, which cells it holds and owns, which vertices it shares.
+//! What an enclave leaf of a tree is stands in this crate's specs.
+#![tactic(auto)]
+
+mod keys;
+pub mod laws;
+#[cfg(test)]
+mod tests;
+mod tiles;
+
+pub use keys::Keys;
+pub use tiles::is_tiling;
