@@ -1,5 +1,5 @@
 pub mod Slots
-pub mod Packed
+pub mod Columns
 pub mod AtRest
 pub mod Tells
 pub mod Laws

@@ -41,3 +41,10 @@ fresh_slot dim key n = blank (if nat_lt n (corners dim) then first_status (adjac
 -- the new record of a vertex
 abbrev pub fresh : Dim → VertexKey → VertexRecord
 fresh dim key = record { key = key; slots = map (fresh_slot dim key) (0 ∷ 1 ∷ 2 ∷ 3 ∷ 4 ∷ 5 ∷ 6 ∷ 7 ∷ []) }
+
+-- a record of which nothing is known
+abbrev pub untold : VertexRecord
+untold = record {
+  key = record { level = 0; v = 0 ∷ 0 ∷ 0 ∷ [] };
+  slots = blank Unset ∷ blank Unset ∷ blank Unset ∷ blank Unset ∷ blank Unset ∷ blank Unset ∷ blank Unset ∷ blank Unset ∷ [];
+}

@@ -2,8 +2,8 @@
 //! What a record's slots say of the cells round its vertex, while a store is at rest, stands in this crate's specs.
 #![tactic(auto)]
 
+mod columns;
 pub mod laws;
-mod packed;
 mod slot;
 mod stored;
 #[cfg(test)]
@@ -11,6 +11,7 @@ mod tests;
 mod traffic;
 mod view;
 
+pub use columns::{FourSlots, More, Near};
 pub use slot::{Intent, Slot, Status};
 pub use stored::{Parcel, Stored};
 pub use traffic::Traffic;

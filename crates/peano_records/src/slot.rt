@@ -1,4 +1,7 @@
 //! A slot: what a vertex record knows of one adjacent position.
+ghost use Rattle.std.specs.Prelude.{◌≡◌};
+ghost use Rattle.peano_records.specs.Slots.{blank};
+
 use peano_keys::{Mark, State};
 
 /// What stands at an adjacent position: nothing known yet, no cell since it lies outside the domain, a leaf, or a
@@ -28,4 +31,19 @@ pub struct Slot {
     pub status: Status,
     pub mark: Mark,
     pub intent: Intent,
+}
+
+impl Slot {
+    // A slot of which the status alone is known.
+    pub(crate) fn blank(status: Status) -> Slot
+        ensures { result ≡ blank status }
+    {
+        Slot {
+            status,
+            value: State::Single(0),
+            next: State::Single(0),
+            mark: Mark::Keep,
+            intent: Intent::Stay,
+        }
+    }
 }

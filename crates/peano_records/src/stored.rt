@@ -2,12 +2,12 @@
 ghost use Rattle.std.specs.Prelude.{◌≡◌, ◌<◌, length};
 ghost use Rattle.peano_keys.specs.Vertex.{IsVertex};
 ghost use Rattle.peano_keys.specs.Dim.{corners};
-ghost use Rattle.peano_records.specs.Slots.{slot_at, with_slot, fresh_slot, fresh};
-ghost use Rattle.peano_records.specs.Packed.{unpacked_slot};
+ghost use Rattle.peano_records.specs.Slots.{slot_at, with_slot, fresh_slot, fresh, untold};
+ghost use Rattle.peano_records.specs.Columns.{record_of};
 
-use crate::packed::PackedSlot;
-use crate::slot::{Intent, Slot, Status};
-use peano_keys::{Dim, Mark, State, VertexKey, adjacent};
+use crate::columns::{FourSlots, More, Near};
+use crate::slot::{Slot, Status};
+use peano_keys::{Dim, VertexKey, adjacent};
 use std::marker::Model;
 use std::mem::size_of;
 
@@ -15,20 +15,18 @@ use std::mem::size_of;
 /// slots; in two dimensions the last four are not in use.
 #[derive(Drop)]
 pub struct Stored {
-    key: VertexKey,
-    slots: [PackedSlot; 8],
+    near: Near,
+    far: FourSlots,
+    more: More,
 }
 
 impl Model for Stored {
-    ghost use Rattle.std.specs.Prelude.{◌≡◌, length, map};
-    ghost use Rattle.peano_records.specs.Packed.{unpacked_slot};
+    ghost use Rattle.peano_records.specs.Columns.{record_of};
     ghost use Rattle.peano_records.specs.Slots.{VertexRecord};
 
     ghost Value = { VertexRecord };
 
-    ghost view = { λ s. record { key = s.key; slots = map unpacked_slot s.slots } };
-
-    ghost invariant = { λ s. length s.slots ≡ 8 };
+    ghost view = { λ s. record_of s.near s.far s.more };
 }
 
 // A record is moved at each visit of its vertex, so it stays small.
@@ -52,51 +50,53 @@ fn position_count(dim: Dim) -> u32
 }
 
 // Slot `n` of a new record.
-fn opening_slot(dim: Dim, key: VertexKey, n: u32) -> PackedSlot
+fn opening_slot(dim: Dim, key: VertexKey, n: u32) -> Slot
     requires vertex { IsVertex dim key }
     requires slot { n < 8 }
-    ensures { unpacked_slot result ≡ fresh_slot dim key n }
+    ensures { result ≡ fresh_slot dim key n }
 {
-    let status = if n < position_count(dim) && adjacent(dim, key, n).is_none() {
-        Status::Outside
+    if n < position_count(dim) && adjacent(dim, key, n).is_none() {
+        Slot::blank(Status::Outside)
     } else {
-        Status::Unset
-    };
-    PackedSlot::of(Slot {
-        status,
-        value: State::Single(0),
-        next: State::Single(0),
-        mark: Mark::Keep,
-        intent: Intent::Stay,
-    })
+        Slot::blank(Status::Unset)
+    }
 }
 
 impl Stored {
+    /// The record of the vertex of level 0 at the origin, of whose slots nothing is known: a place to take a record into.
+    pub fn blank() -> Stored
+        ensures { result ≡ untold }
+    {
+        Stored {
+            near: Near::blank(),
+            far: FourSlots::blank(),
+            more: More::blank(),
+        }
+    }
+
     /// The record of a vertex of which nothing is known yet but which positions lie outside the domain.
     pub fn new(dim: Dim, key: VertexKey) -> Stored
         requires { IsVertex dim key }
         ensures { result ≡ fresh dim key }
     {
-        Stored {
-            key,
-            slots: [
-                opening_slot(dim, key, 0),
-                opening_slot(dim, key, 1),
-                opening_slot(dim, key, 2),
-                opening_slot(dim, key, 3),
-                opening_slot(dim, key, 4),
-                opening_slot(dim, key, 5),
-                opening_slot(dim, key, 6),
-                opening_slot(dim, key, 7),
-            ],
-        }
+        let mut record = Stored::blank();
+        record.near.key = key;
+        record.set(0, opening_slot(dim, key, 0));
+        record.set(1, opening_slot(dim, key, 1));
+        record.set(2, opening_slot(dim, key, 2));
+        record.set(3, opening_slot(dim, key, 3));
+        record.set(4, opening_slot(dim, key, 4));
+        record.set(5, opening_slot(dim, key, 5));
+        record.set(6, opening_slot(dim, key, 6));
+        record.set(7, opening_slot(dim, key, 7));
+        record
     }
 
     /// The vertex.
     pub fn key(&self) -> VertexKey
         ensures { result ≡ self.now.key }
     {
-        self.key
+        self.near.key
     }
 
     /// Slot number `n`, which is below 8.
@@ -105,7 +105,7 @@ impl Stored {
         ensures value { result ≡ slot_at self.now n }
         ensures eight { length self.now.slots ≡ 8 }
     {
-        self.slots[n as usize].slot()
+        self.near.slot(&self.far, &self.more, n)
     }
 
     /// Changes slot number `n`, which is below 8, and nothing else.
@@ -114,7 +114,7 @@ impl Stored {
         ensures value { self.new ≡ with_slot self.old n slot }
         ensures eight { length self.old.slots ≡ 8 }
     {
-        self.slots[n as usize] = PackedSlot::of(slot);
+        self.near.set(&mut self.far, &mut self.more, n, slot);
     }
 
     /// The record as plain data.
@@ -123,18 +123,32 @@ impl Stored {
         ensures slots { result.slots ≡ self.now.slots }
         ensures eight { length result.slots ≡ 8 }
     {
-        Parcel {
-            key: self.key,
-            slots: [
-                self.slot(0),
-                self.slot(1),
-                self.slot(2),
-                self.slot(3),
-                self.slot(4),
-                self.slot(5),
-                self.slot(6),
-                self.slot(7),
-            ],
+        self.near.parcel(&self.far, &self.more)
+    }
+
+    /// Writes the record into three columns. What it does not use is not written.
+    pub fn lay(&self, near: &mut Near, far: &mut FourSlots, more: &mut More)
+        ensures { record_of near.new far.new more.new ≡ self.now }
+    {
+        *near = self.near;
+        if self.near.has_far {
+            *far = self.far;
+        }
+        if self.near.has_more {
+            *more = self.more;
+        }
+    }
+
+    /// Takes the record that three columns hold. What it does not use is not read.
+    pub fn lift(&mut self, near: &Near, far: &FourSlots, more: &More)
+        ensures { self.new ≡ record_of near.now far.now more.now }
+    {
+        self.near = *near;
+        if near.has_far {
+            self.far = *far;
+        }
+        if near.has_more {
+            self.more = *more;
         }
     }
 }

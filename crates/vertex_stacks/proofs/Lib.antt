@@ -1,3 +1,4 @@
-pub mod Buffers
-pub mod Moves
+pub mod Counts
+pub mod Flat
 pub mod Places
+pub mod Sound

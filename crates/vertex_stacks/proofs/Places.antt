@@ -27,5 +27,5 @@ slice_get-reverse xs k d h =
     slice_get-get_or (reverse xs) k d within ∙ ap Some (get_or-reverse xs k d h)
 
 -- lists as they are seen, after one vertex of the input changed
-pub lists_seen-set : (dim : Dim) (room : ℕ) (items output : List Stored) (lanes : List (List Stored)) (taken put pushed : ℕ) (tale : Tale) (i k : ℕ) (new : Stored) → k + i + 1 ≡ length items → lists_seen dim room (reverse (set items i new)) output lanes taken put pushed tale ≡ record (lists_seen dim room (reverse items) output lanes taken put pushed tale) { input = slice_set (reverse items) k new }
-lists_seen-set dim room items output lanes taken put pushed tale i k new ends = rw (reverse-set items i k new ends, length-set (reverse items) k new) refl
+pub lists_seen-set : (dim : Dim) (pages : ℕ) (items output : List Stored) (lanes : List (List Stored)) (taken put pushed : ℕ) (tale : Tale) (i k : ℕ) (new : Stored) → k + i + 1 ≡ length items → lists_seen dim pages (reverse (set items i new)) output lanes taken put pushed tale ≡ record (lists_seen dim pages (reverse items) output lanes taken put pushed tale) { input = slice_set (reverse items) k new }
+lists_seen-set dim pages items output lanes taken put pushed tale i k new ends = rw (reverse-set items i k new ends, length-set (reverse items) k new) refl

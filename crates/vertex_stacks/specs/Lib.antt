@@ -1,3 +1,4 @@
 pub mod Notes
 pub mod Tales
 pub mod Lists
+pub mod Piles

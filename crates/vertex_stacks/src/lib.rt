@@ -5,6 +5,8 @@
 mod kind;
 mod lanes;
 pub mod laws;
+mod page;
+mod pile;
 mod tale;
 
 pub use kind::Kind;

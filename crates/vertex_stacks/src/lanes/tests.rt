@@ -42,6 +42,19 @@ fn input_count(lanes: &Lanes) -> u64
     lanes.input.len() as u64
 }
 
+// The record of one of many vertices.
+fn numbered(place: u32) -> Stored
+    requires { place ≤ 19683 }
+{
+    Stored::new(
+        Dim::Two,
+        VertexKey {
+            level: 9,
+            v: [place, 0, 0],
+        },
+    )
+}
+
 #[test]
 fn new_lanes_answer_none(rt: HostRuntime) {
     for (dim, lane_count) in [(Dim::Two, 4u32), (Dim::Three, 6)] {
@@ -202,5 +215,108 @@ fn the_tale_counts_each_kind_and_sums_what_was_moved(rt: HostRuntime) {
                 pushed
             }
         );
+    }
+}
+
+#[test]
+fn pages_are_made_as_room_is_asked_for(rt: HostRuntime) {
+    let mut lanes = Lanes::new(rt.alloc(), Dim::Two);
+    assert_eq!(rt; (lanes.pages(), lanes.room()), (0, 0));
+    // The vertices that are to have room, and the pages and the room after that.
+    for (held, pages, room) in [
+        (0u64, 0u64, 0u64),
+        (65, 8, 128),
+        (128, 8, 128),
+        (129, 9, 192),
+        (1, 9, 192),
+    ] {
+        assert!(rt; lanes.reserve_live(held).is_ok());
+        assert_eq!(rt; (lanes.pages(), lanes.room()), (pages, room), "for {held}");
+    }
+}
+
+#[test]
+fn vertices_come_back_in_order_over_many_pages(rt: HostRuntime) {
+    let mut lanes = Lanes::new(rt.alloc(), Dim::Two);
+    assert!(rt; lanes.reserve_live(2000).is_ok());
+    let pages = lanes.pages();
+    // Round and round, so that the pages of the lanes lie between each other.
+    for k in 0..2000u32 {
+        assert!(rt; is_lane(&lanes, k % 4));
+        assert!(rt; lanes.push(k % 4, numbered(k)).is_ok());
+    }
+    for turned in 0..2000u32 {
+        let k = 1999 - turned;
+        assert!(rt; is_lane(&lanes, k % 4));
+        let Some(v) = lanes.pop(k % 4) else {
+            return assert!(rt; false, "the lane is empty before {k}");
+        };
+        assert_eq!(rt; v.key().v[0], k);
+        assert!(rt; lanes.put_output(v).is_ok());
+    }
+    assert!(rt; lanes.is_drained());
+    let _note = lanes.turn(0, Kind::Show, 0);
+    for k in 0..2000u32 {
+        assert_eq!(rt; place(lanes.take_input()), Some(k));
+    }
+    assert_eq!(rt; lanes.pages(), pages);
+}
+
+#[test]
+fn a_vertex_goes_from_a_place_and_to_another(rt: HostRuntime) {
+    let mut lanes = Lanes::new(rt.alloc(), Dim::Two);
+    let wide = Slot {
+        status: Status::Refined,
+        value: State::Quadruple(1, -2, 3, -4),
+        next: State::two(5, 6),
+        mark: Mark::Coarsen,
+        intent: Intent::Merge,
+    };
+    let mut from = numbered(7);
+    from.set(3, wide);
+    let mut to = numbered(8);
+    // What lay in the place before does not show: its slots 6 and 7 were written.
+    to.set(6, wide);
+    to.set(7, wide);
+    let blank = Stored::blank().slot(6);
+    assert!(rt; is_lane(&lanes, 2));
+    assert!(rt; lanes.push_from(2, &mut from).is_ok());
+    assert!(rt; is_lane(&lanes, 2));
+    assert!(rt; lanes.pop_into(2, &mut to));
+    assert!(rt; lanes.put_output_from(&mut to).is_ok());
+    assert!(rt; lanes.is_drained());
+    let _note = lanes.turn(0, Kind::Show, 0);
+    let mut last = Stored::blank();
+    assert!(rt; lanes.take_input_into(&mut last));
+    assert_eq!(rt; last.key().v[0], 7);
+    assert_eq!(rt; last.slot(3), wide);
+    assert_eq!(rt; last.slot(6), blank);
+    assert_eq!(rt; last.slot(7), blank);
+    assert!(rt; !lanes.take_input_into(&mut last));
+}
+
+#[test]
+fn a_refusal_changes_nothing(rt: HostRuntime) {
+    let mut lanes = Lanes::new(rt.alloc(), Dim::Two);
+    // Each call is made again where memory was wanting, which it is where an allocation is made to fail.
+    for k in 0..300u32 {
+        let before = (lanes.pages(), lanes.counts());
+        assert!(rt; is_lane(&lanes, k % 3));
+        if let Err(v) = lanes.push(k % 3, numbered(k)) {
+            assert_eq!(rt; v.key().v[0], k);
+            assert_eq!(rt; (lanes.pages(), lanes.counts()), before);
+            assert!(rt; is_lane(&lanes, k % 3));
+            assert!(rt; lanes.push(k % 3, v).is_ok());
+        }
+    }
+    let before = lanes.pages();
+    if lanes.reserve_live(1000).is_err() {
+        assert_eq!(rt; lanes.pages(), before);
+        assert!(rt; lanes.reserve_live(1000).is_ok());
+    }
+    for turned in 0..300u32 {
+        let k = 299 - turned;
+        assert!(rt; is_lane(&lanes, k % 3));
+        assert_eq!(rt; place(lanes.pop(k % 3)), Some(k));
     }
 }
