@@ -1,0 +1,13 @@
+pub mod TreeLists
+pub mod Sweep
+pub mod Views
+pub mod Promises
+pub mod Story
+pub mod Moments
+pub mod Decisions
+pub mod Visits
+pub mod Corners
+pub mod Sweeps
+pub mod AtRest
+pub mod Journeys
+pub mod Carries

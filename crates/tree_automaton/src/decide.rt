@@ -1,0 +1,176 @@
+//! Where a corner comes from when its cell is entered, and where it goes when its cell is left.
+ghost use Rattle.std.specs.Prelude.{◌≡◌, ◌<◌, ◌*◌, Option, Some, IsTrue, true};
+ghost use Rattle.std.specs.Option.{option_map};
+ghost use Rattle.peano_keys.specs.Dim.{axes, corners};
+ghost use Rattle.peano_keys.specs.Cell.{IsCell};
+ghost use Rattle.peano_keys.specs.Vertex.{corner_of};
+ghost use Rattle.peano_keys.specs.declared.cell.CellKey.{CellKey};
+ghost use Rattle.peano_keys.specs.Grid.{has_cell};
+ghost use Rattle.sweep_visits.specs.Plan.{is_kept, is_stored, is_stored_in, is_cell_in};
+ghost use Rattle.tree_automaton.specs.Sweep.{TreeSweep, is_owned};
+ghost use Rattle.tree_automaton.specs.Decisions.{Decides, IsCourse, EntryIs, ExitIs, IsLaneIn, IsLaneOut};
+
+use crate::kinds::Serves;
+use hanging_nodes::stored_here;
+use peano_curve::{Direction, Range, after, before, centre, lane_of};
+use peano_keys::{CellKey, Dim, VertexKey, corner};
+use peano_records::CellView;
+
+/// What a sweep is over, as far as a cell needs to know it.
+#[derive(Clone, Copy)]
+pub struct Course {
+    pub dim: Dim,
+    pub depth: u32,
+    pub range: Range,
+    pub dir: Direction,
+    pub serves: Serves,
+}
+
+/// Where a corner comes from: a lane from the cell before, the input, nowhere as it is made, or nowhere as it hangs.
+#[derive(Clone, Copy, Debug, PartialEq, Eq)]
+pub enum Entry {
+    Lane(u32),
+    Input,
+    Made,
+    Hanging,
+}
+
+/// Where a kept corner goes: on a lane to the next cell, to the output, or nowhere as it is given up.
+#[derive(Clone, Copy, Debug, PartialEq, Eq)]
+pub enum Exit {
+    Lane(u32),
+    Output,
+    GivenUp,
+}
+
+// Whether a corner is stored in the old grid.
+fn is_stored_before(course: &Course, parent: Option<&CellView>, cell: CellKey, n: u32) -> bool
+    requires cell { IsCell course.now.dim cell }
+    requires corner { n < corners course.now.dim }
+    requires asks { (p : TreeSweep) × Decides p course.now (option_map (λ v. v.now) parent) cell }
+    ensures { (p : TreeSweep) → Decides p course.now (option_map (λ v. v.now) parent.entry) cell → result ≡ is_stored_in p.plan.old (corner_of cell n) }
+{
+    match course.serves {
+        Serves::Raising => false,
+        Serves::Adapting | Serves::Plain => match parent {
+            Some(view) => stored_here(course.dim, view, &corner(course.dim, cell, n), false),
+            None => true,
+        },
+    }
+}
+
+// Whether a corner is stored in the new grid.
+fn is_stored_after(course: &Course, parent: Option<&CellView>, cell: CellKey, n: u32) -> bool
+    requires cell { IsCell course.now.dim cell }
+    requires corner { n < corners course.now.dim }
+    requires asks { (p : TreeSweep) × Decides p course.now (option_map (λ v. v.now) parent) cell }
+    ensures { (p : TreeSweep) → Decides p course.now (option_map (λ v. v.now) parent.entry) cell → result ≡ is_stored p.plan.new (corner_of cell n) }
+{
+    match parent {
+        Some(view) => {
+            let after = course.serves.tells_new();
+            stored_here(course.dim, view, &corner(course.dim, cell, n), after)
+        }
+        None => true,
+    }
+}
+
+// Whether a corner is stored in one of the grids, where it is known of the old one.
+fn is_kept(course: &Course, parent: Option<&CellView>, cell: CellKey, n: u32, old: bool) -> bool
+    requires cell { IsCell course.now.dim cell }
+    requires corner { n < corners course.now.dim }
+    requires asks { (p : TreeSweep) × Decides p course.now (option_map (λ v. v.now) parent) cell }
+    ensures { (p : TreeSweep) → Decides p course.now (option_map (λ v. v.now) parent.entry) cell → old ≡ is_stored_in p.plan.old (corner_of cell n) → result ≡ is_kept p.plan (corner_of cell n) }
+{
+    match course.serves {
+        Serves::Plain => old,
+        Serves::Raising | Serves::Adapting => {
+            if old {
+                return true;
+            }
+            is_stored_after(course, parent, cell, n)
+        }
+    }
+}
+
+// Whether a kept corner stays: in a plain sweep each does, as one grid stores it before and after.
+fn is_staying(course: &Course, parent: Option<&CellView>, cell: CellKey, n: u32) -> bool
+    requires cell { IsCell course.now.dim cell }
+    requires corner { n < corners course.now.dim }
+    requires asks { (p : TreeSweep) × Decides p course.now (option_map (λ v. v.now) parent) cell }
+    ensures { (p : TreeSweep) → Decides p course.now (option_map (λ v. v.now) parent.entry) cell → is_kept p.plan (corner_of cell n) ≡ true → result ≡ is_stored p.plan.new (corner_of cell n) }
+{
+    match course.serves {
+        Serves::Plain => true,
+        Serves::Raising | Serves::Adapting => is_stored_after(course, parent, cell, n),
+    }
+}
+
+/// Where a corner of a cell comes from, as the cell is entered.
+pub fn entry_of(course: &Course, parent: Option<&CellView>, cell: CellKey, n: u32) -> Entry
+    requires cell { IsCell course.now.dim cell }
+    requires corner { n < corners course.now.dim }
+    requires asks { (p : TreeSweep) × Decides p course.now (option_map (λ v. v.now) parent) cell }
+    ensures value { (p : TreeSweep) → Decides p course.now (option_map (λ v. v.now) parent.entry) cell → EntryIs p.plan cell (corner_of cell n) result }
+    ensures lane { IsLaneIn course.now.dim result }
+{
+    let old = is_stored_before(course, parent, cell, n);
+    if !is_kept(course, parent, cell, n, old) {
+        return Entry::Hanging;
+    }
+    let v = corner(course.dim, cell, n);
+    match before(course.dim, v, cell, &course.range, course.depth, course.dir) {
+        Some((_, axis)) => Entry::Lane(lane_of(&v, axis)),
+        None => { if old { Entry::Input } else { Entry::Made } }
+    }
+}
+
+/// Where a kept corner of a cell goes, as the cell is left.
+pub fn exit_of(course: &Course, parent: Option<&CellView>, cell: CellKey, n: u32) -> Exit
+    requires cell { IsCell course.now.dim cell }
+    requires corner { n < corners course.now.dim }
+    requires asks { (p : TreeSweep) × Decides p course.now (option_map (λ v. v.now) parent) cell }
+    ensures value { (p : TreeSweep) → Decides p course.now (option_map (λ v. v.now) parent.entry) cell → is_kept p.plan (corner_of cell n) ≡ true → ExitIs p.plan cell (corner_of cell n) result }
+    ensures lane { IsLaneOut course.now.dim result }
+{
+    let v = corner(course.dim, cell, n);
+    match after(course.dim, v, cell, &course.range, course.depth, course.dir) {
+        Some((_, axis)) => Exit::Lane(lane_of(&v, axis)),
+        None => {
+            if is_staying(course, parent, cell, n) {
+                Exit::Output
+            } else {
+                Exit::GivenUp
+            }
+        }
+    }
+}
+
+/// Whether the tree owns a visited cell: the cell's centre lies in the tree's range.
+pub fn is_owned(course: &Course, parent: Option<&CellView>, cell: CellKey) -> bool
+    requires cell { IsCell course.now.dim cell }
+    requires asks { (p : TreeSweep) × Decides p course.now (option_map (λ v. v.now) parent) cell }
+    ensures { (p : TreeSweep) → Decides p course.now (option_map (λ v. v.now) parent.entry) cell → result ≡ is_owned p.plan cell }
+{
+    course.range.holds(centre(course.dim, cell, course.depth))
+}
+
+/// Whether a visited cell is one of the old grid.
+pub fn is_old(course: &Course, parent: Option<&CellView>) -> bool
+    ensures { (p : TreeSweep) (c : CellKey) → Decides p course.now (option_map (λ v. v.now) parent.entry) c → result ≡ is_cell_in p.plan.old c }
+{
+    match parent {
+        Some(view) => matches!(view.was, Some(true)),
+        None => !matches!(course.serves, Serves::Raising),
+    }
+}
+
+/// Whether a visited cell is one of the new grid.
+pub fn is_new(course: &Course, parent: Option<&CellView>) -> bool
+    ensures { (p : TreeSweep) (c : CellKey) → Decides p course.now (option_map (λ v. v.now) parent.entry) c → result ≡ has_cell p.plan.new c }
+{
+    match parent {
+        Some(view) => matches!(view.will, Some(true)),
+        None => true,
+    }
+}

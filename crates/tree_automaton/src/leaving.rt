@@ -1,0 +1,139 @@
+//! The leave of a cell.
+ghost use Rattle.std.specs.Prelude.{◌≡◌, ◌<◌, ◌≤◌, ◌+◌, ◌++◌, length, Option, List, Some, OnOk, IsOk, true, pos, ◌≤ℤ◌, ◌+ℤ◌, if◌then◌else◌};
+ghost use Rattle.std.specs.Option.{option_map};
+ghost use Rattle.peano_keys.specs.Dim.{corners};
+ghost use Rattle.peano_keys.specs.Cell.{IsCell};
+ghost use Rattle.sweep_visits.specs.Visits.{Visit};
+ghost use Rattle.sweep_visits.specs.Moves.{Move};
+ghost use Rattle.vertex_stacks.specs.Tales.{capped};
+ghost use Rattle.tree_automaton.specs.TreeLists.{spare_cells};
+ghost use Rattle.tree_automaton.specs.Sweep.{TreeSweep};
+ghost use Rattle.tree_automaton.specs.Decisions.{Decides};
+ghost use Rattle.tree_automaton.specs.Story.{Story};
+ghost use Rattle.tree_automaton.specs.Moments.{record_by};
+ghost use Rattle.tree_automaton.specs.Visits.{LeaveAsks, LeaveGives, IsSameTree, vertex_part, vertices_in};
+ghost use Rattle.tree_automaton.specs.Corners.{GiveAsks, GiveAllAsks, GivenBelow, GiveGives, MovesVertices, is_leaf_left};
+
+use crate::automaton::Automaton;
+use crate::decide::{Course, Exit, exit_of, is_owned};
+use crate::entering::corner_count;
+use crate::store::TreeStore;
+use peano_keys::CellKey;
+use peano_records::{CellRecord, CellView, Corner};
+use std::alloc::AllocError;
+use std::mem;
+use vertex_stacks::Kind;
+
+// Gives one corner of a cell.
+fn give_corner(
+    store: &mut TreeStore,
+    course: &Course,
+    parent: Option<&CellView>,
+    cell: CellKey,
+    n: u32,
+    given: Corner,
+) -> Result<(), AllocError>
+    requires cell { IsCell course.now.dim cell }
+    requires corner { n < corners course.now.dim }
+    requires asks { (m : Story) × (made : List Move) × (more : List Move) × GiveAsks m made more course.now (option_map (λ v. v.now) parent) cell n given store.old }
+    ensures given { OnOk result ((m : Story) (made more : List Move) → GiveAsks m made more course.now (option_map (λ v. v.now) parent.entry) cell n given store.old → GiveGives m made more cell n store.new) }
+    ensures others { MovesVertices store.old store.new }
+    ensures spare { OnOk result (store.old.lanes.spare ≤ℤ (store.new.lanes.spare +ℤ pos (vertex_part given))) }
+    ensures memory { pos (vertex_part given) ≤ℤ store.old.lanes.spare → IsOk result }
+{
+    match given {
+        Corner::Vertex(v) => match exit_of(course, parent, cell, n) {
+            Exit::Lane(lane) => store.push(lane, v),
+            Exit::Output => store.put_output(v),
+            Exit::GivenUp => Ok(()),
+        },
+        _ => Ok(()),
+    }
+}
+
+// Gives all corners of a cell, the least number first.
+fn give_corners(
+    store: &mut TreeStore,
+    course: &Course,
+    parent: Option<&CellView>,
+    cell: CellKey,
+    mut given: [Corner; 8],
+) -> Result<(), AllocError>
+    requires cell { IsCell course.now.dim cell }
+    requires eight { length given ≡ 8 }
+    requires asks { (m : Story) × (made : List Move) × (more : List Move) × GiveAllAsks m made more course.now (option_map (λ v. v.now) parent) cell given store.old }
+    ensures given { OnOk result ((m : Story) (made more : List Move) → GiveAllAsks m made more course.now (option_map (λ v. v.now) parent.entry) cell given store.old → GivenBelow m more cell (corners course.now.dim) 0 store.new) }
+    ensures others { MovesVertices store.old store.new }
+    ensures spare { OnOk result (store.old.lanes.spare ≤ℤ (store.new.lanes.spare +ℤ pos (vertices_in given))) }
+    ensures memory { pos (vertices_in given) ≤ℤ store.old.lanes.spare → IsOk result }
+{
+    for n in 0..corner_count(course.dim) {
+        let one = mem::replace(&mut given[n as usize], Corner::Beyond);
+        give_corner(store, course, parent, cell, n, one)?;
+    }
+    Ok(())
+}
+
+// Writes the record of a cell of the new grid, and counts it where it is a leaf that the tree owns.
+fn write_cell(
+    store: &mut TreeStore,
+    course: &Course,
+    parent: Option<&CellView>,
+    cell: CellKey,
+    will: Option<bool>,
+    task: u32,
+) -> Result<(), AllocError>
+    requires cell { IsCell course.now.dim cell }
+    requires asks { (p : TreeSweep) × Decides p course.now (option_map (λ v. v.now) parent) cell }
+    ensures written { OnOk result (store.new.written ≡ store.old.written ++ record_by will task) }
+    ensures counted { OnOk result ((p : TreeSweep) → Decides p course.now (option_map (λ v. v.now) parent.entry) cell → store.new.counted ≡ (if is_leaf_left p.plan cell will then capped (store.old.counted + 1) else store.old.counted)) }
+    ensures others { store.new ≡ record store.old { written = store.new.written; cell_room = store.new.cell_room; counted = store.new.counted } }
+    ensures room { store.old.cell_room ≤ store.new.cell_room }
+    ensures memory { 0 < spare_cells store.old → IsOk result }
+{
+    let Some(refined) = will else {
+        return Ok(());
+    };
+    store.write(CellRecord { refined, task })?;
+    if refined {
+        return Ok(());
+    }
+    if is_owned(course, parent, cell) {
+        store.count_leaf();
+    }
+    Ok(())
+}
+
+impl Automaton {
+    /// Leaves a cell: gives its corners and its record back. Takes no memory where the lanes have room to spare for the
+    /// view's vertices, and the cell stream for one record.
+    pub fn leave(
+        store: &mut TreeStore,
+        parent: Option<&CellView>,
+        view: CellView,
+        kind: Kind,
+    ) -> Result<(), AllocError>
+        requires cell { IsCell store.old.lanes.dim view.key }
+        requires asks { (m : Story) × (made : List Visit) × (more : List Visit) × LeaveAsks m made more (option_map (λ v. v.now) parent) view.key view kind store.old }
+        ensures left { OnOk result ((m : Story) (made more : List Visit) → LeaveAsks m made more (option_map (λ v. v.now) parent.entry) view.key view kind store.old → LeaveGives m made more view.key view store.new) }
+        ensures others { store.new ≡ record store.old { written = store.new.written; lanes = store.new.lanes; cell_room = store.new.cell_room; counted = store.new.counted } }
+        ensures tree { IsSameTree store.old store.new }
+        ensures spare { OnOk result (store.old.lanes.spare ≤ℤ (store.new.lanes.spare +ℤ pos (vertices_in view.corners))) }
+        ensures cells { spare_cells store.old ≤ spare_cells store.new + 1 }
+        ensures room { store.old.cell_room ≤ store.new.cell_room }
+        ensures memory { pos (vertices_in view.corners) ≤ℤ store.old.lanes.spare → 0 < spare_cells store.old → IsOk result }
+    {
+        let course = store.course(kind);
+        let CellView {
+            key,
+            was: _,
+            will,
+            corners,
+            sides: _,
+            carried: _,
+            task,
+        } = view;
+        give_corners(store, &course, parent, key, corners)?;
+        write_cell(store, &course, parent, key, will, task)
+    }
+}
