@@ -1,0 +1,9 @@
+pub mod Stores
+pub mod Change
+pub mod Phases
+pub mod Exchange
+pub mod Sweeps
+pub mod Moments
+pub mod ExchangeLaws
+pub mod SweepLaws
+pub mod StoreLaws

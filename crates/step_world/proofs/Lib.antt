@@ -1,0 +1,6 @@
+pub mod Exists
+pub mod Worlds
+pub mod Parts
+pub mod Failing
+pub mod Counts
+pub mod Notes

@@ -1,0 +1,5 @@
+pub mod Steps
+pub mod Worlds
+pub mod Failing
+pub mod Counts
+pub mod Notes

@@ -1,0 +1,39 @@
+-- Next grids and next fields: that there are such, and which trees they are for.
+use Rattle.std.specs.Prelude.{◌≡◌, ◌<◌, ℕ, Some, IsSome}
+use Rattle.peano_keys.specs.declared.cell.CellKey.{CellKey}
+use Rattle.peano_keys.specs.declared.state.State.{State}
+use Rattle.peano_keys.specs.declared.side.Sides.{Sides}
+use Rattle.peano_keys.specs.declared.side.Mark.{Mark}
+use Rattle.peano_keys.specs.declared.side.Mark.TheVariants.{Keep, Refine}
+use Rattle.peano_keys.specs.State.{count_of}
+use Rattle.peano_keys.specs.Grid.{Spacetree, IsGrid}
+use Rattle.peano_keys.specs.Field.{States}
+use Rattle.peano_keys.specs.Next.{IsNextGrid}
+use Rattle.solver_api.specs.Step.{UpdateRule, MarkRule, IsLeafOf, IsStep, new_state}
+use Rattle.solver_api.specs.Parts.{HaveParts}
+use Rattle.spacetree.specs.Fields.{IsFieldOn}
+use Rattle.curve_cuts.specs.Cuts.{Cuts, IsCutGrid}
+
+-- the next grid is one for the same trees
+abbrev pub NextIsCut : Type 0
+NextIsCut = (k : Cuts) (old new : Spacetree) (marks : CellKey → Mark) → IsCutGrid k old → IsNextGrid old marks new → ((c : CellKey) → marks c ≡ Refine → c.level < k.depth) → IsCutGrid k new
+
+-- marks always make a next grid
+abbrev pub NextExists : Type 0
+NextExists = (g : Spacetree) (marks : CellKey → Mark) → IsGrid 12 g → (new : Spacetree) × IsNextGrid g marks new
+
+-- where each leaf has a new state, there is a step
+abbrev pub StepExists : Type 0
+StepExists = (updated : UpdateRule) (marked : MarkRule) (g : Spacetree) (f : States) → IsGrid 12 g → ((c : CellKey) → IsLeafOf g c → IsSome (new_state updated g f c)) → (new : Spacetree) × (after : States) × IsStep updated marked g f new after
+
+-- a solver's new states have as many values as the old ones
+abbrev pub KeepsParts : ℕ → UpdateRule → Type 0
+KeepsParts parts updated = (own : State) (sides : Sides) (level : ℕ) (new : State) → HaveParts parts own sides → updated own sides level ≡ Some new → count_of new ≡ parts
+
+-- then so do the states of the next field
+abbrev pub StepKeepsParts : Type 0
+StepKeepsParts = (parts : ℕ) (updated : UpdateRule) (marked : MarkRule) (g : Spacetree) (f : States) (new : Spacetree) (after : States) → IsGrid 12 g → IsFieldOn parts g f → KeepsParts parts updated → IsStep updated marked g f new after → IsFieldOn parts new after
+
+-- where each leaf is to be kept, the next grid is the grid itself
+abbrev pub KeptGridStays : Type 0
+KeptGridStays = (g new : Spacetree) (marks : CellKey → Mark) → ((c : CellKey) → marks c ≡ Keep) → IsNextGrid g marks new → new ≡ g
