@@ -1,0 +1,11 @@
+pub mod Fates
+pub mod Marked
+pub mod Moves
+pub mod Sentences
+pub mod Back
+pub mod Opens
+pub mod Claims
+pub mod Publishes
+pub mod Collects
+pub mod Words
+pub mod Consequences

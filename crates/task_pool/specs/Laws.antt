@@ -1,0 +1,15 @@
+-- Laws of a tree's deque, of whatever is in it and its users know between two steps.
+use Rattle.std.specs.Prelude.{◌≡◌, ℕ, ◌≤◌, Bool, List}
+use mathlib.Core.Option.{some}
+use lib.ListN.{get_elem?}
+use Rattle.task_pool.specs.declared.job.Job.{Job}
+use Rattle.task_pool.specs.declared.log.Log.{Log}
+use Rattle.task_pool.specs.Deque.{count, total, has_number, Keeps}
+
+-- what a helper took are tasks that the tree's hand spawned: whatever is asked of tasks, as many of those spawned have it at least
+abbrev pub TakenWasSpawned : Type 0
+TakenWasSpawned = (items : List Job) (views : List Log) (spawned : List Job) (port : ℕ) (v : Log) (p : Job → Bool) → Keeps items views spawned → get_elem? views port ≡ some v → count p v.taken ≤ count p spawned
+
+-- all helpers together took no number twice
+abbrev pub TakenOnce : Type 0
+TakenOnce = (items : List Job) (views : List Log) (spawned : List Job) (n : ℕ) → Keeps items views spawned → total (λ v. count (has_number n) v.taken) views ≤ 1
