@@ -1,0 +1,4 @@
+pub use Rattle.result_table.specs.Words
+pub mod Core
+pub mod Opening
+pub mod Laws

@@ -1,0 +1,10 @@
+//! One step of all trees as a pure machine: visits, tasks taken and published by anybody, collections and exchanges, in any order.
+//! The machine and its laws stand in this crate's specs; what a run of threads does is a list of its events.
+#![tactic(auto)]
+
+mod event;
+pub mod laws;
+mod stop;
+
+pub use event::{Event, Reply, Sweep};
+pub use stop::{Leaf, Stop};
