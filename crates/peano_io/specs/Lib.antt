@@ -3,4 +3,5 @@ pub mod Causes
 pub mod Reading
 pub mod Writing
 pub mod Memory
+pub mod Cut
 pub mod Standard

@@ -30,9 +30,17 @@ source_left s = unread_bytes s.unread
 abbrev pub source_calls : MemSource → Calls
 source_calls s = s.calls
 
+-- whether a read told the end
+abbrev pub source_ended : MemSource → Bool
+source_ended s = s.unread.ended
+
 -- the bytes that are left
 abbrev pub sure_left : SureSource → List ℕ
 sure_left s = unread_bytes s.unread
+
+-- whether a read told the end
+abbrev pub sure_ended : SureSource → Bool
+sure_ended s = s.unread.ended
 
 -- the bytes that were taken
 abbrev pub sink_bytes : MemSink → List ℕ

@@ -1,8 +1,14 @@
 -- What reading a source to its end takes from it. `None` stands for bytes that the source does not tell.
-use Rattle.std.specs.Prelude.{◌≡◌, ◌↔◌, ℕ, ◌+◌, ◌≤◌, List, [], length, ⊤, Option, Some, None, Result, IsErrOf}
+use Rattle.std.specs.Prelude.{◌≡◌, ◌↔◌, ℕ, zero, suc, ◌+◌, ◌≤◌, Bool, true, false, List, [], length, ⊤, Option, Some, None, Result, Ok, Err, IsErrOf}
 use Rattle.std.specs.Io.KnownBytes.{Consumes}
 use Rattle.peano_io.specs.declared.reading.ReadAllFault.{ReadAllFault}
 use Rattle.peano_io.specs.declared.reading.ReadAllFault.TheVariants.{TooLong}
+
+-- a read tells the end of the input where it moves no byte
+abbrev pub tells_end : {E : Type 0} → Result ℕ E → Bool
+tells_end (Ok zero) = true
+tells_end (Ok (suc n)) = false
+tells_end (Err e) = false
 
 -- these are all the bytes that were left, and none is left now
 abbrev pub ReadsToEnd : Option (List ℕ) → Option (List ℕ) → List ℕ → Type 0

@@ -1,5 +1,5 @@
 -- What the source over a reader and the sink over a writer hold.
-use Rattle.std.specs.Prelude.{ℕ}
+use Rattle.std.specs.Prelude.{ℕ, Bool}
 use Rattle.peano_io.specs.declared.standard.StdSource.{StdSource}
 use Rattle.peano_io.specs.declared.standard.StdSink.{StdSink}
 
@@ -10,6 +10,10 @@ source_reader s = s.reader
 -- how often a read failed
 abbrev pub read_faults : {R : Type 0} → StdSource R → ℕ
 read_faults s = s.faults
+
+-- whether a read told the end
+abbrev pub has_ended : {R : Type 0} → StdSource R → Bool
+has_ended s = s.ended
 
 -- the writer, as it stands now
 abbrev pub sink_writer : {W : Type 0} → StdSink W → W

@@ -3,6 +3,8 @@
 #![tactic(auto)]
 
 mod calls;
+mod cut_sink;
+mod cut_source;
 mod memory_sink;
 mod memory_source;
 mod reading;
@@ -11,6 +13,8 @@ mod source;
 mod standard;
 mod writing;
 
+pub use cut_sink::CutSink;
+pub use cut_source::CutSource;
 pub use memory_sink::MemSink;
 pub use memory_source::{MemSource, SureSource};
 pub use reading::{ReadAllFault, read_all};

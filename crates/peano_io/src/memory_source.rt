@@ -4,40 +4,48 @@ ghost use Rattle.std.specs.Prelude.{◌≤◌, vec_len};
 use crate::calls::Calls;
 use crate::source::{ReadFailed, Source};
 
-// Bytes that are handed out from the front.
+// Bytes that are handed out from the front, and whether their end was told.
 #[derive(Drop)]
-struct Unread {
+pub(crate) struct Unread {
     bytes: Vec<u8>,
     at: usize,
+    ended: bool,
     ghost within: { at ≤ vec_len bytes },
 }
 
 impl Unread {
-    ghost use Rattle.std.specs.Prelude.{◌≡◌, ◌++◌, min, take, drop, length};
+    ghost use Rattle.std.specs.Prelude.{◌≡◌, ◌++◌, min, take, drop, length, false, nat_eq};
     ghost use Rattle.peano_io.specs.Memory.{unread_bytes};
 
-    fn new(bytes: Vec<u8>) -> Unread
-        ensures { unread_bytes result ≡ bytes.items }
+    pub(crate) fn new(bytes: Vec<u8>) -> Unread
+        ensures bytes { unread_bytes result ≡ bytes.items }
+        ensures ended { result.ended ≡ false }
     {
-        Unread { bytes, at: 0 }
+        Unread {
+            bytes,
+            at: 0,
+            ended: false,
+        }
     }
 
-    fn left(&self) -> &[u8]
+    pub(crate) fn left(&self) -> &[u8]
         ensures { result.now ≡ unread_bytes self.now }
     {
         &self.bytes[self.at..]
     }
 
     // Moves as many bytes as `buf` can hold to its front.
-    fn take_into(&mut self, buf: &mut [u8]) -> usize
+    pub(crate) fn take_into(&mut self, buf: &mut [u8]) -> usize
         ensures count { result ≡ min (length buf.old) (length (unread_bytes self.old)) }
         ensures moved { take result buf.new ≡ take result (unread_bytes self.old) }
         ensures rest { unread_bytes self.new ≡ drop result (unread_bytes self.old) }
+        ensures ended { self.new.ended ≡ nat_eq result 0 }
     {
         let rest = self.left();
         let count = buf.len().min(rest.len());
         buf[..count].copy_from_slice(&rest[..count]);
         self.at += count;
+        self.ended = count == 0;
         count
     }
 }
@@ -50,8 +58,8 @@ pub struct MemSource {
 }
 
 impl MemSource {
-    ghost use Rattle.std.specs.Prelude.{◌≡◌};
-    ghost use Rattle.peano_io.specs.Memory.{source_left, source_calls};
+    ghost use Rattle.std.specs.Prelude.{◌≡◌, false};
+    ghost use Rattle.peano_io.specs.Memory.{source_left, source_calls, source_ended};
 
     /// A source of these bytes, before its call 0.
     pub fn new(bytes: Vec<u8>, failing: Vec<u64>) -> MemSource
@@ -59,6 +67,7 @@ impl MemSource {
         ensures failing { (source_calls result).failing ≡ failing }
         ensures next { (source_calls result).next ≡ 0 }
         ensures faults { (source_calls result).faults ≡ 0 }
+        ensures ended { source_ended result ≡ false }
     {
         MemSource {
             unread: Unread::new(bytes),
@@ -72,23 +81,35 @@ impl MemSource {
     {
         self.unread.left()
     }
+
+    /// Whether a read told the end. No read may come after it.
+    pub fn has_ended(&self) -> bool
+        ensures { result ≡ source_ended self.now }
+    {
+        self.unread.ended
+    }
 }
 
 impl Source for MemSource {
-    ghost use Rattle.std.specs.Prelude.{◌≡◌, ◌↔◌, ◌<◌, min, length, Some, IsErr, IfOk, is_ok};
+    ghost use Rattle.std.specs.Prelude.{◌≡◌, ◌↔◌, ◌<◌, min, length, Some, IsErr, IfOk, is_ok, false};
     ghost use Rattle.std.specs.Io.{ReadsAtMost};
     ghost use Rattle.std.specs.Io.KnownBytes.{ReadConsumes};
     ghost use Rattle.peano_io.specs.Causes.{HasCause};
-    ghost use Rattle.peano_io.specs.Memory.{source_left, source_calls, IsListed, after_call};
+    ghost use Rattle.peano_io.specs.Reading.{tells_end};
+    ghost use Rattle.peano_io.specs.Memory.{source_left, source_calls, source_ended, IsListed, after_call};
 
     ghost left = { λ s. Some (source_left s) };
 
     ghost faults = { λ s. (source_calls s).faults };
 
+    ghost ended = { source_ended };
+
     fn read(&mut self, buf: &mut [u8]) -> Result<usize, ReadFailed>
-        requires { 0 < length buf.old }
+        requires room { 0 < length buf.old }
+        requires before_end { source_ended self.old ≡ false }
         ensures bound { ReadsAtMost result buf.new }
         ensures bytes { ReadConsumes (Some (source_left self.old)) (Some (source_left self.new)) result buf.new }
+        ensures end { source_ended self.new ≡ tells_end result }
         ensures cause { HasCause (source_calls self.old).faults (source_calls self.new).faults result }
 
         // It fails exactly at the listed calls, and else fills the buffer as far as there are bytes.
@@ -111,12 +132,13 @@ pub struct SureSource {
 }
 
 impl SureSource {
-    ghost use Rattle.std.specs.Prelude.{◌≡◌};
-    ghost use Rattle.peano_io.specs.Memory.{sure_left};
+    ghost use Rattle.std.specs.Prelude.{◌≡◌, false};
+    ghost use Rattle.peano_io.specs.Memory.{sure_left, sure_ended};
 
     /// A source of these bytes.
     pub fn new(bytes: Vec<u8>) -> SureSource
-        ensures { sure_left result ≡ bytes.items }
+        ensures left { sure_left result ≡ bytes.items }
+        ensures ended { sure_ended result ≡ false }
     {
         SureSource {
             unread: Unread::new(bytes),
@@ -132,20 +154,25 @@ impl SureSource {
 }
 
 impl Source for SureSource {
-    ghost use Rattle.std.specs.Prelude.{◌≡◌, ◌<◌, min, length, Some, Ok};
+    ghost use Rattle.std.specs.Prelude.{◌≡◌, ◌<◌, min, length, Some, Ok, false};
     ghost use Rattle.std.specs.Io.{ReadsAtMost};
     ghost use Rattle.std.specs.Io.KnownBytes.{ReadConsumes};
     ghost use Rattle.peano_io.specs.Causes.{HasCause};
-    ghost use Rattle.peano_io.specs.Memory.{sure_left};
+    ghost use Rattle.peano_io.specs.Reading.{tells_end};
+    ghost use Rattle.peano_io.specs.Memory.{sure_left, sure_ended};
 
     ghost left = { λ s. Some (sure_left s) };
 
     ghost faults = { λ s. 0 };
 
+    ghost ended = { sure_ended };
+
     fn read(&mut self, buf: &mut [u8]) -> Result<usize, ReadFailed>
-        requires { 0 < length buf.old }
+        requires room { 0 < length buf.old }
+        requires before_end { sure_ended self.old ≡ false }
         ensures bound { ReadsAtMost result buf.new }
         ensures bytes { ReadConsumes (Some (sure_left self.old)) (Some (sure_left self.new)) result buf.new }
+        ensures end { sure_ended self.new ≡ tells_end result }
         ensures cause { HasCause 0 0 result }
         ensures filled { result ≡ Ok (min (length buf.old) (length (sure_left self.old))) }
     {

@@ -1,5 +1,5 @@
 //! Reading a source to its end, up to a limit.
-ghost use Rattle.std.specs.Prelude.{◌<◌, ◌≤◌, ◌^◌, length, vec_len, IfOk, IfSome, IsErrOf};
+ghost use Rattle.std.specs.Prelude.{◌≡◌, ◌<◌, ◌≤◌, ◌^◌, length, vec_len, IfOk, IfSome, IsErrOf, false, is_ok};
 ghost use Rattle.peano_io.specs.Causes.{OnlyReadFaultRose};
 ghost use Rattle.peano_io.specs.Reading.{ReadsToEnd, LosesPrefix};
 
@@ -27,9 +27,11 @@ const PIECE: usize = 8192;
 /// All bytes of a source to its end, of which there may be `limit`. It reads at most one byte past the limit, and
 /// after a refusal the source has lost a prefix of what it had.
 pub fn read_all<S: Source>(alloc: Global, src: &mut S, limit: u64) -> Result<Vec<u8>, ReadAllFault>
-    requires { limit ≤ 2 ^ 30 }
+    requires limit { limit ≤ 2 ^ 30 }
+    requires before_end { S.ended src.old ≡ false }
     ensures whole { IfOk result (λ bytes. ReadsToEnd (S.left src.old) (S.left src.new) bytes.items) }
     ensures within { IfOk result (λ bytes. vec_len bytes ≤ limit) }
+    ensures end { S.ended src.new ≡ is_ok result }
 
     // Exactly where one byte more than the limit was read, and so only where more than `limit` were left.
     ensures prefix { LosesPrefix limit (S.left src.old) (S.left src.new) result }

@@ -1,7 +1,7 @@
 //! The real source and sink, over any reader and writer of std. An interrupted call counts as a fault, like every other
 //! error, and so does a write that took nothing.
-ghost use Rattle.std.specs.Prelude.{◌≡◌};
-ghost use Rattle.peano_io.specs.Standard.{source_reader, read_faults, sink_writer, write_faults};
+ghost use Rattle.std.specs.Prelude.{◌≡◌, false};
+ghost use Rattle.peano_io.specs.Standard.{source_reader, read_faults, has_ended, sink_writer, write_faults};
 
 use crate::sink::{Sink, WriteFailed};
 use crate::source::{ReadFailed, Source};
@@ -12,6 +12,7 @@ use std::io::{Read, Write};
 pub struct StdSource<R> {
     reader: R,
     faults: u64,
+    ended: bool,
 }
 
 impl<R: Read> StdSource<R> {
@@ -19,8 +20,13 @@ impl<R: Read> StdSource<R> {
     pub fn new(reader: R) -> StdSource<R>
         ensures reader { source_reader result ≡ reader }
         ensures faults { read_faults result ≡ 0 }
+        ensures ended { has_ended result ≡ false }
     {
-        StdSource { reader, faults: 0 }
+        StdSource {
+            reader,
+            faults: 0,
+            ended: false,
+        }
     }
 }
 
@@ -29,9 +35,14 @@ impl<R: Read> Source for StdSource<R> {
 
     ghost faults = { read_faults };
 
+    ghost ended = { has_ended };
+
     fn read(&mut self, buf: &mut [u8]) -> Result<usize, ReadFailed> {
         match self.reader.read(buf) {
-            Ok(count) => Ok(count),
+            Ok(count) => {
+                self.ended = count == 0;
+                Ok(count)
+            }
             Err(_) => {
                 self.faults = self.faults.saturating_add(1);
                 Err(ReadFailed)

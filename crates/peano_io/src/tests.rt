@@ -22,6 +22,7 @@ fn a_source_fails_at_its_listed_calls(rt: HostRuntime) -> Result<(), Fail> {
     ];
     for (call, (want, left)) in calls.iter().enumerate() {
         let mut buf = [0u8; 2];
+        assert!(rt; !source.has_ended());
         assert_eq!(rt; source.read(&mut buf), *want, "call {call}");
         assert_eq!(rt; source.left(), *left, "call {call}");
     }

@@ -1,25 +1,41 @@
 -- The answer of a run, from what reading and reporting ensure.
-use Rattle.std.proofs.Common.{◌≡◌, ℕ, List, Option, Some, None, Result, Ok, Err, IfOk, IfErr, Vec, Global, subst, ◌∙◌}
+use Rattle.std.proofs.Common.{◌≡◌, ℕ, ◌+◌, ◌≤◌, ◌++◌, Bool, true, List, [], length, Option, Some, None, Result, Ok, Err, IfOk, IfErr, Vec, Global, subst, sym, ◌∙◌, append-nil, arith}
+use Rattle.std.proofs.lemmas.Option.{none-some}
+use Rattle.std.specs.Io.KnownBytes.{Consumes}
 use Rattle.peano_io.specs.Reading.{ReadsToEnd}
 use Rattle.peano_keys.specs.declared.dim.Dim.{Dim}
 use Rattle.peano_run.specs.declared.answer.Answer.{Answer}
 use Rattle.peano_run.specs.declared.answer.Answer.TheVariants.{Done, Usage, ReadFault, TooLong, Malformed, Limit, Crowded, Overflow, WriteFault, NoMemory}
 use Rattle.peano_run.specs.declared.ending.Ending.{Ending}
-use Rattle.peano_run.specs.Report.{IsReport, IsRefused}
-use Rattle.peano_run.specs.Run.{RefusalOf, NamesIn, EndsBy, ReadFaultRose, IsEarly, Reports}
+use Rattle.peano_run.specs.Report.{IsReport, IsRefused, longest_input}
+use Rattle.peano_run.specs.Run.{RefusalOf, NamesIn, EndsBy, ReadFaultRose, ReadsBy, IsReadWhole, LosesOf, IsEarly, Reports}
+
+-- what a source that was read to its end lost
+lost : (before after : Option (List ℕ)) (bytes : List ℕ) → ReadsToEnd before after bytes → Consumes before after bytes
+lost None after bytes read = tt
+lost (Some all) None bytes read = absurd (none-some [] read.1)
+lost (Some all) (Some rest) bytes read = subst (λ (o : Option (List ℕ)). Consumes (Some all) o bytes) (sym read.1) (sym read.0 ∙ sym (append-nil bytes))
+
+lost_all : (before after : Option (List ℕ)) (bytes : List ℕ) → ReadsToEnd before after bytes → length bytes ≤ longest_input → LosesOf (λ n. n ≤ longest_input + 1) before after
+lost_all before after bytes read short = record { prefix = bytes; lost = lost before after bytes read; count = omega (arith, short) }
+
+-- it was read whole
+pub whole : (before after : Option (List ℕ)) (ended : Bool) (bytes : List ℕ) → ReadsToEnd before after bytes → ended ≡ true → length bytes ≤ longest_input → IsReadWhole before after ended
+whole None after ended bytes read end short = end
+whole (Some all) after ended bytes read end short = (end, read.1, subst (λ (b : List ℕ). length b ≤ longest_input) read.0 short)
 
 -- a refusal of the file comes before anything is written, and no read has failed
-early : (bytes : List ℕ) (faults now : ℕ) (a : Answer) → now ≡ faults → IsRefused bytes a → RefusalOf a bytes × ReadFaultRose a faults now × IsEarly a
-early bytes faults now Done same h = absurd h
-early bytes faults now Usage same h = absurd h
-early bytes faults now ReadFault same h = absurd h
-early bytes faults now TooLong same h = (h, same, tt)
-early bytes faults now (Malformed code place) same h = (h, same, tt)
-early bytes faults now (Limit which number) same h = (h, same, tt)
-early bytes faults now (Crowded step cells) same h = (h, same, tt)
-early bytes faults now (Overflow step leaf) same h = (h, same, tt)
-early bytes faults now (WriteFault written) same h = absurd h
-early bytes faults now NoMemory same h = (h, same, tt)
+early : (bytes : List ℕ) (before after : Option (List ℕ)) (ended : Bool) (faults now : ℕ) (a : Answer) → length bytes ≤ longest_input → now ≡ faults → IsReadWhole before after ended → LosesOf (λ n. n ≤ longest_input + 1) before after → IsRefused bytes a → RefusalOf a bytes × ReadsBy a before after ended × ReadFaultRose a faults now × IsEarly a
+early bytes before after ended faults now Done short same read lost h = absurd h
+early bytes before after ended faults now Usage short same read lost h = absurd h
+early bytes before after ended faults now ReadFault short same read lost h = absurd h
+early bytes before after ended faults now TooLong short same read lost h = absurd (omega (arith, short, h))
+early bytes before after ended faults now (Malformed code place) short same read lost h = (h, read, same, tt)
+early bytes before after ended faults now (Limit which number) short same read lost h = (h, read, same, tt)
+early bytes before after ended faults now (Crowded step cells) short same read lost h = (h, read, same, tt)
+early bytes before after ended faults now (Overflow step leaf) short same read lost h = (h, read, same, tt)
+early bytes before after ended faults now (WriteFault written) short same read lost h = absurd h
+early bytes before after ended faults now NoMemory short same read lost h = (h, lost, same, tt)
 
 -- where the source tells nothing, nothing is said of it
 untold : (dim : Dim) (a : Answer) → NamesIn dim a None
@@ -35,13 +51,13 @@ untold dim (WriteFault written) = tt
 untold dim NoMemory = tt
 
 -- what is said of the bytes that were read is said of those that the source had
-pub reports_from : (before after : Option (List ℕ)) (faults now : ℕ) (bytes slice : List ℕ) (result : Result (Vec ℕ Global) Ending) → ReadsToEnd before after bytes → slice ≡ bytes → now ≡ faults → IfOk result (λ text. IsReport slice text.items) → IfErr result (λ ending. EndsBy ending slice) → Reports before after faults now result
-reports_from None after faults now bytes slice (Ok text) read same count ok err = count
-reports_from (Some all) after faults now bytes slice (Ok text) read same count ok err = (subst (λ (b : List ℕ). IsReport b text.items) (same ∙ read.0) ok, read.1, count)
-reports_from None after faults now bytes slice (Err ending) read same count ok err =
-    let ends = early slice faults now ending.answer count err.0 in
-    (tt, ends.1, ends.2, untold ending.dim ending.answer)
-reports_from (Some all) after faults now bytes slice (Err ending) read same count ok err =
+pub reports_from : (before after : Option (List ℕ)) (ended : Bool) (faults now : ℕ) (bytes slice : List ℕ) (result : Result (Vec ℕ Global) Ending) → ReadsToEnd before after bytes → ended ≡ true → length bytes ≤ longest_input → slice ≡ bytes → now ≡ faults → IfOk result (λ text. IsReport slice text.items) → IfErr result (λ ending. EndsBy ending slice) → Reports before after ended faults now result
+reports_from None after ended faults now bytes slice (Ok text) read end short same count ok err = (end, count)
+reports_from (Some all) after ended faults now bytes slice (Ok text) read end short same count ok err = (subst (λ (b : List ℕ). IsReport b text.items) (same ∙ read.0) ok, whole (Some all) after ended bytes read end short, count)
+reports_from None after ended faults now bytes slice (Err ending) read end short same count ok err =
+    let ends = early slice None after ended faults now ending.answer (subst (λ (b : List ℕ). length b ≤ longest_input) (sym same) short) count (whole None after ended bytes read end short) (lost_all None after bytes read short) err.0 in
+    (tt, ends.1, ends.2, ends.3, untold ending.dim ending.answer)
+reports_from (Some all) after ended faults now bytes slice (Err ending) read end short same count ok err =
     let said = subst (EndsBy ending) (same ∙ read.0) err in
-    let ends = early all faults now ending.answer count said.0 in
-    (ends.0, ends.1, ends.2, said.1)
+    let ends = early all (Some all) after ended faults now ending.answer (subst (λ (b : List ℕ). length b ≤ longest_input) read.0 short) count (whole (Some all) after ended bytes read end short) (lost_all (Some all) after bytes read short) said.0 in
+    (ends.0, ends.1, ends.2, ends.3, said.1)

@@ -1,26 +1,39 @@
 -- What a run does to its source and its sinks, by the answer that it ends with.
-use Rattle.std.specs.Prelude.{◌≡◌, ℕ, ◌<◌, ◌∷◌, List, [], length, take, ⊤, Option, Some, None, String, Vec, Result, Ok, Err}
+use Rattle.std.specs.Prelude.{◌≡◌, ℕ, ◌+◌, ◌<◌, ◌≤◌, ◌∷◌, Bool, true, List, [], length, take, ⊤, Option, Some, None, String, Vec, Result, Ok, Err}
 use Rattle.std.specs.declared.alloc.Global.{Global}
-use Rattle.std.specs.Io.KnownBytes.{Appends}
+use Rattle.std.specs.Io.KnownBytes.{Consumes, Appends}
 use Rattle.peano_keys.specs.declared.dim.Dim.{Dim}
 use Rattle.peano_io.specs.Causes.{Rose}
 use Rattle.peano_run.specs.declared.answer.Answer.{Answer}
-use Rattle.peano_run.specs.declared.answer.Answer.TheVariants.{Done, Usage, ReadFault, Overflow, WriteFault}
+use Rattle.peano_run.specs.declared.answer.Answer.TheVariants.{Done, Usage, ReadFault, TooLong, Overflow, WriteFault, NoMemory}
 use Rattle.peano_run.specs.declared.ending.Ending.{Ending}
 use Rattle.peano_run.specs.Texts.{text_of}
-use Rattle.peano_run.specs.Report.{IsReport, IsRefused, OfPlan}
+use Rattle.peano_run.specs.Report.{IsReport, IsRefused, OfPlan, longest_input}
 
 -- the words are refused: no option is built yet, so every word is
 abbrev pub AreRefused : List (String Global) → Type 0
 AreRefused [] = ⊥
 AreRefused (word ∷ words) = Unit {0}
 
--- the source was not touched where the words are refused, and is at its end where the run is done
-abbrev pub ReadsBy : Answer → Option (List ℕ) → Option (List ℕ) → Type 0
-ReadsBy Usage before after = after ≡ before
-ReadsBy Done None after = ⊤
-ReadsBy Done (Some bytes) after = after ≡ Some []
-ReadsBy _ before after = ⊤
+-- the source lost a prefix of so many bytes
+pub record LosesOf (P : ℕ → Type 0) (before after : Option (List ℕ)) : Type 0 where
+  pub prefix : List ℕ
+  pub lost : Consumes before after prefix
+  pub count : P (length prefix)
+
+-- the source was read to its end, which it told, and had no more bytes than an input may have
+abbrev pub IsReadWhole : Option (List ℕ) → Option (List ℕ) → Bool → Type 0
+IsReadWhole None after ended = ended ≡ true
+IsReadWhole (Some bytes) after ended = (ended ≡ true) × (after ≡ Some []) × (length bytes ≤ longest_input)
+
+-- What the source lost: nothing where the words are refused; at a read fault no more than an input may have; one byte more where the input is too long, and at most
+-- one more where memory ran out; and else all, up to the end that it told.
+abbrev pub ReadsBy : Answer → Option (List ℕ) → Option (List ℕ) → Bool → Type 0
+ReadsBy Usage before after ended = after ≡ before
+ReadsBy ReadFault before after ended = LosesOf (λ n. n ≤ longest_input) before after
+ReadsBy TooLong before after ended = LosesOf (λ n. n ≡ longest_input + 1) before after
+ReadsBy NoMemory before after ended = LosesOf (λ n. n ≤ longest_input + 1) before after
+ReadsBy _ before after ended = IsReadWhole before after ended
 
 -- what the sink took: the whole report of the input, or its first bytes where a write failed, fewer than all
 abbrev pub WritesOf : Answer → List ℕ → Option (List ℕ) → Option (List ℕ) → Type 0
@@ -78,11 +91,11 @@ NamesIn dim _ input = ⊤
 abbrev pub EndsBy : Ending → List ℕ → Type 0
 EndsBy ending bytes = IsRefused bytes ending.answer × NamesIn ending.dim ending.answer (Some bytes)
 
--- reading and reporting: the report of the input, which was read to its end, or the answer that stands in its place
-abbrev pub Reports : Option (List ℕ) → Option (List ℕ) → ℕ → ℕ → Result (Vec ℕ Global) Ending → Type 0
-Reports None after faults now (Ok text) = now ≡ faults
-Reports (Some bytes) after faults now (Ok text) = IsReport bytes text.items × (after ≡ Some []) × (now ≡ faults)
-Reports before after faults now (Err ending) = RefusalBy ending.answer before × ReadFaultRose ending.answer faults now × IsEarly ending.answer × NamesIn ending.dim ending.answer before
+-- reading and reporting: the report of the input, where the source tells it, or the answer that stands in its place
+abbrev pub Reports : Option (List ℕ) → Option (List ℕ) → Bool → ℕ → ℕ → Result (Vec ℕ Global) Ending → Type 0
+Reports None after ended faults now (Ok text) = IsReadWhole None after ended × (now ≡ faults)
+Reports (Some bytes) after ended faults now (Ok text) = IsReport bytes text.items × IsReadWhole (Some bytes) after ended × (now ≡ faults)
+Reports before after ended faults now (Err ending) = RefusalBy ending.answer before × ReadsBy ending.answer before after ended × ReadFaultRose ending.answer faults now × IsEarly ending.answer × NamesIn ending.dim ending.answer before
 
 -- a text was written whole, or in part where the count of faults rose
 pub data Tells (text : List ℕ) (before after : Option (List ℕ)) (faults now : ℕ) : Type 0 where

@@ -1,5 +1,5 @@
 //! The top call.
-ghost use Rattle.std.specs.Prelude.{◌≡◌, ◌≢◌, ◌↔◌};
+ghost use Rattle.std.specs.Prelude.{◌≡◌, ◌≢◌, ◌↔◌, false};
 ghost use Rattle.peano_run.specs.Texts.{status_of};
 ghost use Rattle.peano_run.specs.Run.{AreRefused, ReadsBy, WritesBy, WritesNothing, RefusalBy, ReadFaultRose, WriteFaultRose, Reports, NamesIn, Tells, TellsAnswer};
 
@@ -15,7 +15,8 @@ const LONGEST_INPUT: u64 = 1_048_576;
 
 // Reads the source to its end and makes the report of what it had.
 fn report_of<S: Source>(alloc: Global, input: &mut S) -> Result<Vec<u8>, Ending>
-    ensures { Reports (S.left input.old) (S.left input.new) (S.faults input.old) (S.faults input.new) result }
+    requires { S.ended input.old ≡ false }
+    ensures { Reports (S.left input.old) (S.left input.new) (S.ended input.new) (S.faults input.old) (S.faults input.new) result }
 {
     match read_all(alloc, input, LONGEST_INPUT) {
         Ok(bytes) => report(alloc, bytes.as_slice()),
@@ -27,8 +28,9 @@ fn report_of<S: Source>(alloc: Global, input: &mut S) -> Result<Vec<u8>, Ending>
 
 // Reads the input, and writes its report.
 fn served<S: Source, K: Sink>(alloc: Global, input: &mut S, out: &mut K) -> Ending
+    requires { S.ended input.old ≡ false }
     ensures served { result.answer ≢ Answer.Usage }
-    ensures reading { ReadsBy result.answer (S.left input.old) (S.left input.new) }
+    ensures reading { ReadsBy result.answer (S.left input.old) (S.left input.new) (S.ended input.new) }
     ensures output { WritesBy result.answer (S.left input.old) (K.taken out.old) (K.taken out.new) }
     ensures nothing { WritesNothing result.answer out.old out.new }
     ensures refusal { RefusalBy result.answer (S.left input.old) }
@@ -68,12 +70,16 @@ pub fn run<S: Source, K: Sink, E: Sink>(
     out: &mut K,
     err: &mut E,
 ) -> Outcome
+    requires { S.ended input.old ≡ false }
+
     // The words alone decide on `Usage`, and then nothing is read.
     ensures usage { (result.answer ≡ Answer.Usage) ↔ AreRefused words.now }
     ensures unread { result.answer ≡ Answer.Usage → input.new ≡ input.old }
 
-    // At `Done` the source is at its end, and `out` took exactly the report; at a write fault exactly its first bytes.
-    ensures reading { ReadsBy result.answer (S.left input.old) (S.left input.new) }
+    // No byte is read past the end that the source told, nor past the first that is too many.
+    ensures reading { ReadsBy result.answer (S.left input.old) (S.left input.new) (S.ended input.new) }
+
+    // At `Done` `out` took exactly the report; at a write fault exactly its first bytes.
     ensures output { WritesBy result.answer (S.left input.old) (K.taken out.old) (K.taken out.new) }
     ensures nothing { WritesNothing result.answer out.old out.new }
 
