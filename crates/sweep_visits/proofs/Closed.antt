@@ -27,8 +27,8 @@ yes_no : (a : Bool) → a ≡ true → a ≡ false → ⊥
 yes_no a e f = absurd (cc)
 
 module _ (depth : ℕ) (visited opened : CellKey → Bool) (open_above : ParentsAreOpen visited opened) where
-  abbrev E2 : ℕ → Box → Type 0
-  E2 = IsEmpty (axis_in 2) (cell_in 2) (visited_at Two depth visited opened)
+  abbrev IsEmptyInPlane : ℕ → Box → Type 0
+  IsEmptyInPlane = IsEmpty (axis_in 2) (cell_in 2) (visited_at Two depth visited opened)
 
   none_two : (m : ℕ) (b : Box) → (b.x2 ≡ 0 → visited (cell_of Two depth m b) ≡ false) → visited_at Two depth visited opened m b ≡ false
   none_two m b none = false_if _ (λ t.
@@ -49,10 +49,10 @@ module _ (depth : ℕ) (visited opened : CellKey → Bool) (open_above : Parents
   two_child : (m : ℕ) (b : Box) (k j : Column) → m % 2 ≡ 0 → m / 2 < depth → (b.x2 ≡ 0 → open_at Two depth visited opened (suc (suc m)) b ≡ false) → b.x2 ≡ 0 → visited (cell_of Two depth m (column second j (column first k b))) ≡ false
   two_child m b k j e deep closed flat = false_if _ (λ t. yes_no _ (subst (λ c. (visited c && opened c) ≡ true) (two_parent m b k j e flat) (open_above (cell_of Two depth m (column second j (column first k b))) (omega arith) t)) (closed flat))
 
-  two_bar : (m : ℕ) (b : Box) (k : Column) → m % 2 ≡ 0 → ((j : Column) → E2 m (column second j (column first k b))) → E2 (suc m) (column first k b)
+  two_bar : (m : ℕ) (b : Box) (k : Column) → m % 2 ≡ 0 → ((j : Column) → IsEmptyInPlane m (column second j (column first k b))) → IsEmptyInPlane (suc m) (column first k b)
   two_bar m b k e h = rw (two_second (suc m) (omega arith), no_cell 2 (suc m) (λ f. omega arith)) ((λ c. absurd (cc)), h)
 
-  two_empty : (n m : ℕ) → m ≡ 2 * n → n ≤ depth → (b : Box) → (b.x2 ≡ 0 → visited (cell_of Two depth m b) ≡ false) → E2 m b
+  two_empty : (n m : ℕ) → m ≡ 2 * n → n ≤ depth → (b : Box) → (b.x2 ≡ 0 → visited (cell_of Two depth m b) ≡ false) → IsEmptyInPlane m b
   two_empty zero zero e l b none = λ c. none_two 0 b none
   two_empty zero (suc m) e l b none = absurd (omega arith)
   two_empty (suc n) zero e l b none = absurd (omega arith)
@@ -68,8 +68,8 @@ module _ (depth : ℕ) (visited opened : CellKey → Bool) (open_above : Parents
       rw (two_first (suc (suc m)) (omega arith))
       (two_bar m b k (omega arith) (λ j. two_empty (m / 2) m (omega arith) (omega arith) (column second j (column first k b)) (two_child m b k j (omega arith) (omega arith) (λ flat. e))))
 
-  abbrev E3 : ℕ → Box → Type 0
-  E3 = IsEmpty (axis_in 3) (cell_in 3) (visited_at Three depth visited opened)
+  abbrev IsEmptyInSpace : ℕ → Box → Type 0
+  IsEmptyInSpace = IsEmpty (axis_in 3) (cell_in 3) (visited_at Three depth visited opened)
 
   none_three : (m : ℕ) (b : Box) → visited (cell_of Three depth m b) ≡ false → visited_at Three depth visited opened m b ≡ false
   none_three m b none = false_if _ (λ t. (let f = and_true (leb m (splits Three depth)) _ (and_true (cell_in 3 m) _ t).1 in yes_no _ f.1 none))
@@ -91,12 +91,12 @@ module _ (depth : ℕ) (visited opened : CellKey → Bool) (open_above : Parents
   three_child : (m : ℕ) (b : Box) (k j i : Column) → m % 3 ≡ 0 → m / 3 < depth → open_at Three depth visited opened (suc (suc (suc m))) b ≡ false → visited (cell_of Three depth m (child_at b k j i)) ≡ false
   three_child m b k j i e deep closed = false_if _ (λ t. yes_no _ (subst (λ c. (visited c && opened c) ≡ true) (three_parent m b k j i e) (open_above (cell_of Three depth m (child_at b k j i)) (omega arith) t)) closed)
 
-  three_bar : (m : ℕ) (b : Box) (k : Column) → m % 3 ≡ 0 → ((j i : Column) → E3 m (child_at b k j i)) → E3 (suc (suc m)) (column first k b)
+  three_bar : (m : ℕ) (b : Box) (k : Column) → m % 3 ≡ 0 → ((j i : Column) → IsEmptyInSpace m (child_at b k j i)) → IsEmptyInSpace (suc (suc m)) (column first k b)
   three_bar m b k e h =
       rw (three_second (suc (suc m)) (omega arith), no_cell 3 (suc (suc m)) (λ f. omega arith))
       ((λ c. absurd (cc)), (λ j. rw (three_third (suc m) (omega arith), no_cell 3 (suc m) (λ f. omega arith)) ((λ c. absurd (cc)), h j)))
 
-  three_empty : (n m : ℕ) → m ≡ 3 * n → n ≤ depth → (b : Box) → visited (cell_of Three depth m b) ≡ false → E3 m b
+  three_empty : (n m : ℕ) → m ≡ 3 * n → n ≤ depth → (b : Box) → visited (cell_of Three depth m b) ≡ false → IsEmptyInSpace m b
   three_empty zero zero e l b none = λ c. none_three 0 b none
   three_empty zero (suc m) e l b none = absurd (omega arith)
   three_empty (suc n) zero e l b none = absurd (omega arith)

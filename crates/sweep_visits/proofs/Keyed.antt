@@ -47,18 +47,18 @@ order_each up xs xs' ys ys' zs zs' e f g = rw (e, f, g) refl
 
 -- in the plane
 module _ (dir : Direction) (depth : ℕ) (visited opened : CellKey → Bool) where
-  abbrev W : ℕ → Box → Faces → List Visit
-  W = seen (key Two depth visited opened) (direction_of dir) (axis_in 2) (cell_in 2) (visited_at Two depth visited opened) (open_at Two depth visited opened)
+  abbrev seen_in_plane : ℕ → Box → Faces → List Visit
+  seen_in_plane = seen (key Two depth visited opened) (direction_of dir) (axis_in 2) (cell_in 2) (visited_at Two depth visited opened) (open_at Two depth visited opened)
 
-  abbrev V : ℕ → CellKey → List Visit
-  V = visits_at Two dir visited opened
+  abbrev visits_in_plane : ℕ → CellKey → List Visit
+  visits_in_plane = visits_at Two dir visited opened
 
-  module _ (k m : ℕ) (e : m ≡ 2 * k) (l : suc k ≤ depth) (ih : (b : Box) (io : Faces) → b.x2 ≡ 0 → W m b io ≡ V k (cell_of Two depth m b)) where
-    two_bar : (b : Box) (io : Faces) → b.x2 ≡ 0 → W (suc m) b io ≡ in_three dir (λ t. V k (cell_of Two depth m (moved second (3 * b.x1 + turned (b.x0 + b.x2) t) b)))
+  module _ (k m : ℕ) (e : m ≡ 2 * k) (l : suc k ≤ depth) (ih : (b : Box) (io : Faces) → b.x2 ≡ 0 → seen_in_plane m b io ≡ visits_in_plane k (cell_of Two depth m b)) where
+    two_bar : (b : Box) (io : Faces) → b.x2 ≡ 0 → seen_in_plane (suc m) b io ≡ in_three dir (λ t. visits_in_plane k (cell_of Two depth m (moved second (3 * b.x1 + turned (b.x0 + b.x2) t) b)))
     two_bar b io flat =
         bar (key Two depth visited opened) (direction_of dir) (axis_in 2) (cell_in 2) (visited_at Two depth visited opened) (open_at Two depth visited opened) m second b io (two_second (suc m) (omega arith)) (no_cell 2 (suc m) (λ f. omega arith))
         ∙ order_each _ _ _ _ _ _ _ (ih (column second lower b) _ flat) (ih (column second middle b) _ flat) (ih (column second upper b) _ flat)
-        ∙ turned_order dir (b.x0 + b.x2) (λ t. V k (cell_of Two depth m (moved second (3 * b.x1 + t) b)))
+        ∙ turned_order dir (b.x0 + b.x2) (λ t. visits_in_plane k (cell_of Two depth m (moved second (3 * b.x1 + t) b)))
 
     two_child : (b : Box) (a t : ℕ) → b.x2 ≡ 0 → cell_of Two depth m (moved second (3 * b.x1 + turned (3 * b.x0 + turned (b.x1 + b.x2) a + b.x2) t) (moved first (3 * b.x0 + turned (b.x1 + b.x2) a) b)) ≡ nth_from Two (cell_of Two depth (suc (suc m)) b) (turned b.x1 a) t 0
     two_child b a t flat =
@@ -68,20 +68,20 @@ module _ (dir : Direction) (depth : ℕ) (visited opened : CellKey → Bool) whe
         let z : b.x2 ≡ 3 * b.x2 + 0 = omega arith in
         λ i. record { level = r i; x = triple (3 * b.x0 + p i) (3 * b.x1 + q i) (z i) }
 
-    two_parts : (b : Box) (io : Faces) → b.x2 ≡ 0 → parts (key Two depth visited opened) (direction_of dir) (axis_in 2) (cell_in 2) (visited_at Two depth visited opened) (open_at Two depth visited opened) (suc m) first b io ≡ in_three dir (λ a. in_three dir (λ t. V k (nth_from Two (cell_of Two depth (suc (suc m)) b) (turned b.x1 a) t 0)))
+    two_parts : (b : Box) (io : Faces) → b.x2 ≡ 0 → parts (key Two depth visited opened) (direction_of dir) (axis_in 2) (cell_in 2) (visited_at Two depth visited opened) (open_at Two depth visited opened) (suc m) first b io ≡ in_three dir (λ a. in_three dir (λ t. visits_in_plane k (nth_from Two (cell_of Two depth (suc (suc m)) b) (turned b.x1 a) t 0)))
     two_parts b io flat =
         order_each _ _ _ _ _ _ _ (two_bar (column first lower b) _ flat) (two_bar (column first middle b) _ flat) (two_bar (column first upper b) _ flat)
-        ∙ turned_order dir (b.x1 + b.x2) (λ a. in_three dir (λ t. V k (cell_of Two depth m (moved second (3 * b.x1 + turned (3 * b.x0 + a + b.x2) t) (moved first (3 * b.x0 + a) b)))))
-        ∙ three_each dir _ _ (λ a. three_each dir _ _ (λ t. ap (V k) (two_child b a t flat)))
+        ∙ turned_order dir (b.x1 + b.x2) (λ a. in_three dir (λ t. visits_in_plane k (cell_of Two depth m (moved second (3 * b.x1 + turned (3 * b.x0 + a + b.x2) t) (moved first (3 * b.x0 + a) b)))))
+        ∙ three_each dir _ _ (λ a. three_each dir _ _ (λ t. ap (visits_in_plane k) (two_child b a t flat)))
 
-    two_step : (b : Box) (io : Faces) → b.x2 ≡ 0 → W (suc (suc m)) b io ≡ V (suc k) (cell_of Two depth (suc (suc m)) b)
+    two_step : (b : Box) (io : Faces) → b.x2 ≡ 0 → seen_in_plane (suc (suc m)) b io ≡ visits_in_plane (suc k) (cell_of Two depth (suc (suc m)) b)
     two_step b io flat =
         let one = eq-eqb (suc (suc m) % 2) 0 (omega arith) in
         let c = cell_of Two depth (suc (suc m)) b in
         cell_step (key Two depth visited opened) (direction_of dir) (axis_in 2) (cell_in 2) (visited_at Two depth visited opened) (open_at Two depth visited opened) (suc m) first b io (visited c) (opened c) (two_first (suc (suc m)) (omega arith)) one (visited_here Two depth visited opened (suc (suc m)) b one (omega arith) (eq-eqb b.x2 0 flat)) refl
-        ∙ ap (λ vs. if visited c then enter c ∷ ((if opened c then vs else []) ++ leave c ∷ []) else []) (two_parts b io flat ∙ sym (two_children dir (V k) c))
+        ∙ ap (λ vs. if visited c then enter c ∷ ((if opened c then vs else []) ++ leave c ∷ []) else []) (two_parts b io flat ∙ sym (two_children dir (visits_in_plane k) c))
 
-  two_walk : (k m : ℕ) → m ≡ 2 * k → k ≤ depth → (b : Box) (io : Faces) → b.x2 ≡ 0 → W m b io ≡ V k (cell_of Two depth m b)
+  two_walk : (k m : ℕ) → m ≡ 2 * k → k ≤ depth → (b : Box) (io : Faces) → b.x2 ≡ 0 → seen_in_plane m b io ≡ visits_in_plane k (cell_of Two depth m b)
   two_walk zero zero e l b io flat = cell_end (key Two depth visited opened) (direction_of dir) (axis_in 2) (cell_in 2) (visited_at Two depth visited opened) (open_at Two depth visited opened) b io (visited (cell_of Two depth 0 b)) refl (visited_here Two depth visited opened 0 b refl (omega arith) (eq-eqb b.x2 0 flat))
   two_walk zero (suc m) e l b io flat = absurd (omega arith)
   two_walk (suc k) zero e l b io flat = absurd (omega arith)
@@ -90,18 +90,18 @@ module _ (dir : Direction) (depth : ℕ) (visited opened : CellKey → Bool) whe
 
 -- in space
 module _ (dir : Direction) (depth : ℕ) (visited opened : CellKey → Bool) where
-  abbrev W3 : ℕ → Box → Faces → List Visit
-  W3 = seen (key Three depth visited opened) (direction_of dir) (axis_in 3) (cell_in 3) (visited_at Three depth visited opened) (open_at Three depth visited opened)
+  abbrev seen_in_space : ℕ → Box → Faces → List Visit
+  seen_in_space = seen (key Three depth visited opened) (direction_of dir) (axis_in 3) (cell_in 3) (visited_at Three depth visited opened) (open_at Three depth visited opened)
 
-  abbrev V3 : ℕ → CellKey → List Visit
-  V3 = visits_at Three dir visited opened
+  abbrev visits_in_space : ℕ → CellKey → List Visit
+  visits_in_space = visits_at Three dir visited opened
 
-  module _ (k m : ℕ) (e : m ≡ 3 * k) (l : suc k ≤ depth) (ih : (b : Box) (io : Faces) → W3 m b io ≡ V3 k (cell_of Three depth m b)) where
-    last_bar : (b : Box) (io : Faces) → W3 (suc m) b io ≡ in_three dir (λ u. V3 k (cell_of Three depth m (moved third (3 * b.x2 + turned (b.x0 + b.x1) u) b)))
+  module _ (k m : ℕ) (e : m ≡ 3 * k) (l : suc k ≤ depth) (ih : (b : Box) (io : Faces) → seen_in_space m b io ≡ visits_in_space k (cell_of Three depth m b)) where
+    last_bar : (b : Box) (io : Faces) → seen_in_space (suc m) b io ≡ in_three dir (λ u. visits_in_space k (cell_of Three depth m (moved third (3 * b.x2 + turned (b.x0 + b.x1) u) b)))
     last_bar b io =
         bar (key Three depth visited opened) (direction_of dir) (axis_in 3) (cell_in 3) (visited_at Three depth visited opened) (open_at Three depth visited opened) m third b io (three_third (suc m) (omega arith)) (no_cell 3 (suc m) (λ f. omega arith))
         ∙ order_each _ _ _ _ _ _ _ (ih (column third lower b) _) (ih (column third middle b) _) (ih (column third upper b) _)
-        ∙ turned_order dir (b.x0 + b.x1) (λ u. V3 k (cell_of Three depth m (moved third (3 * b.x2 + u) b)))
+        ∙ turned_order dir (b.x0 + b.x1) (λ u. visits_in_space k (cell_of Three depth m (moved third (3 * b.x2 + u) b)))
 
     abbrev second_part : Box → ℕ → Box
     second_part b t = moved second (3 * b.x1 + t) b
@@ -109,11 +109,11 @@ module _ (dir : Direction) (depth : ℕ) (visited opened : CellKey → Bool) whe
     abbrev third_part : Box → ℕ → Box
     third_part b u = moved third (3 * b.x2 + turned (b.x0 + b.x1) u) b
 
-    middle_bar : (b : Box) (io : Faces) → W3 (suc (suc m)) b io ≡ in_three dir (λ t. in_three dir (λ u. V3 k (cell_of Three depth m (third_part (second_part b (turned (b.x0 + b.x2) t)) u))))
+    middle_bar : (b : Box) (io : Faces) → seen_in_space (suc (suc m)) b io ≡ in_three dir (λ t. in_three dir (λ u. visits_in_space k (cell_of Three depth m (third_part (second_part b (turned (b.x0 + b.x2) t)) u))))
     middle_bar b io =
         bar (key Three depth visited opened) (direction_of dir) (axis_in 3) (cell_in 3) (visited_at Three depth visited opened) (open_at Three depth visited opened) (suc m) second b io (three_second (suc (suc m)) (omega arith)) (no_cell 3 (suc (suc m)) (λ f. omega arith))
         ∙ order_each _ _ _ _ _ _ _ (last_bar (column second lower b) _) (last_bar (column second middle b) _) (last_bar (column second upper b) _)
-        ∙ turned_order dir (b.x0 + b.x2) (λ t. in_three dir (λ u. V3 k (cell_of Three depth m (third_part (second_part b t) u))))
+        ∙ turned_order dir (b.x0 + b.x2) (λ t. in_three dir (λ u. visits_in_space k (cell_of Three depth m (third_part (second_part b t) u))))
 
     abbrev first_part : Box → ℕ → Box
     first_part b a = moved first (3 * b.x0 + a) b
@@ -127,20 +127,20 @@ module _ (dir : Direction) (depth : ℕ) (visited opened : CellKey → Bool) whe
         let r : depth - m / 3 ≡ depth - suc (suc (suc m)) / 3 + 1 = omega arith in
         λ i. record { level = r i; x = triple (3 * b.x0 + k0) (3 * b.x1 + q i) (3 * b.x2 + s i) }
 
-    three_parts : (b : Box) (io : Faces) → parts (key Three depth visited opened) (direction_of dir) (axis_in 3) (cell_in 3) (visited_at Three depth visited opened) (open_at Three depth visited opened) (suc (suc m)) first b io ≡ in_three dir (λ a. in_three dir (λ t. in_three dir (λ u. V3 k (nth_from Three (cell_of Three depth (suc (suc (suc m))) b) (turned (b.x1 + b.x2) a) t u))))
+    three_parts : (b : Box) (io : Faces) → parts (key Three depth visited opened) (direction_of dir) (axis_in 3) (cell_in 3) (visited_at Three depth visited opened) (open_at Three depth visited opened) (suc (suc m)) first b io ≡ in_three dir (λ a. in_three dir (λ t. in_three dir (λ u. visits_in_space k (nth_from Three (cell_of Three depth (suc (suc (suc m))) b) (turned (b.x1 + b.x2) a) t u))))
     three_parts b io =
         order_each _ _ _ _ _ _ _ (middle_bar (column first lower b) _) (middle_bar (column first middle b) _) (middle_bar (column first upper b) _)
-        ∙ turned_order dir (b.x1 + b.x2) (λ a. in_three dir (λ t. in_three dir (λ u. V3 k (cell_of Three depth m (third_part (second_part (first_part b a) (turned (3 * b.x0 + a + b.x2) t)) u)))))
-        ∙ three_each dir _ _ (λ a. three_each dir _ _ (λ t. three_each dir _ _ (λ u. ap (V3 k) (three_child b a t u))))
+        ∙ turned_order dir (b.x1 + b.x2) (λ a. in_three dir (λ t. in_three dir (λ u. visits_in_space k (cell_of Three depth m (third_part (second_part (first_part b a) (turned (3 * b.x0 + a + b.x2) t)) u)))))
+        ∙ three_each dir _ _ (λ a. three_each dir _ _ (λ t. three_each dir _ _ (λ u. ap (visits_in_space k) (three_child b a t u))))
 
-    three_step : (b : Box) (io : Faces) → W3 (suc (suc (suc m))) b io ≡ V3 (suc k) (cell_of Three depth (suc (suc (suc m))) b)
+    three_step : (b : Box) (io : Faces) → seen_in_space (suc (suc (suc m))) b io ≡ visits_in_space (suc k) (cell_of Three depth (suc (suc (suc m))) b)
     three_step b io =
         let one = eq-eqb (suc (suc (suc m)) % 3) 0 (omega arith) in
         let c = cell_of Three depth (suc (suc (suc m))) b in
         cell_step (key Three depth visited opened) (direction_of dir) (axis_in 3) (cell_in 3) (visited_at Three depth visited opened) (open_at Three depth visited opened) (suc (suc m)) first b io (visited c) (opened c) (three_first (suc (suc (suc m))) (omega arith)) one (visited_here Three depth visited opened (suc (suc (suc m))) b one (omega arith) refl) refl
-        ∙ ap (λ vs. if visited c then enter c ∷ ((if opened c then vs else []) ++ leave c ∷ []) else []) (three_parts b io ∙ sym (three_children dir (V3 k) c))
+        ∙ ap (λ vs. if visited c then enter c ∷ ((if opened c then vs else []) ++ leave c ∷ []) else []) (three_parts b io ∙ sym (three_children dir (visits_in_space k) c))
 
-  three_walk : (k m : ℕ) → m ≡ 3 * k → k ≤ depth → (b : Box) (io : Faces) → W3 m b io ≡ V3 k (cell_of Three depth m b)
+  three_walk : (k m : ℕ) → m ≡ 3 * k → k ≤ depth → (b : Box) (io : Faces) → seen_in_space m b io ≡ visits_in_space k (cell_of Three depth m b)
   three_walk zero zero e l b io = cell_end (key Three depth visited opened) (direction_of dir) (axis_in 3) (cell_in 3) (visited_at Three depth visited opened) (open_at Three depth visited opened) b io (visited (cell_of Three depth 0 b)) refl (visited_here Three depth visited opened 0 b refl (omega arith) refl)
   three_walk zero (suc m) e l b io = absurd (omega arith)
   three_walk (suc k) zero e l b io = absurd (omega arith)

@@ -74,19 +74,19 @@ module _ (p : SweepPlan) (plan : IsSweepPlan p) where
     after : (k : ℕ) → passings_on (made ++ x ∷ []) k ≡ reverse (then_now k)
     after k = standing_is (made ++ x ∷ []) more e' k
 
-    stays : (k : ℕ) → on_lane k (lane_part x) ≡ [] → passings_on (made ++ x ∷ []) k ≡ passings_on made k
+    pub stays : (k : ℕ) → on_lane k (lane_part x) ≡ [] → passings_on (made ++ x ∷ []) k ≡ passings_on made k
     stays k none = (let h = some_same (now k) (then_now k) (ap (run same_passing (now k)) (sym none) ∙ one_step k) in after k ∙ ap reverse (sym h) ∙ sym (before k))
 
-    gives : (k : ℕ) (y : Passing) → on_lane k (lane_part x) ≡ stack.push y ∷ [] → passings_on (made ++ x ∷ []) k ≡ passings_on made k ++ y ∷ []
+    pub gives : (k : ℕ) (y : Passing) → on_lane k (lane_part x) ≡ stack.push y ∷ [] → passings_on (made ++ x ∷ []) k ≡ passings_on made k ++ y ∷ []
     gives k y is = (let h = some_same (y ∷ now k) (then_now k) (ap (run same_passing (now k)) (sym is) ∙ one_step k) in after k ∙ ap reverse (sym h) ∙ reverse-cons y (now k) ∙ ap (λ s. s ++ y ∷ []) (sym (before k)))
 
-    finds : (k : ℕ) (y : Passing) → on_lane k (lane_part x) ≡ stack.pop y ∷ [] → passings_on made k ≡ passings_on (made ++ x ∷ []) k ++ y ∷ []
+    pub finds : (k : ℕ) (y : Passing) → on_lane k (lane_part x) ≡ stack.pop y ∷ [] → passings_on made k ≡ passings_on (made ++ x ∷ []) k ++ y ∷ []
     finds k y is = (let h = stepped_pop y (now k) (then_now k) (ap (run same_passing (now k)) (sym is) ∙ one_step k) in before k ∙ ap reverse h ∙ reverse-cons y (then_now k) ∙ ap (λ s. s ++ y ∷ []) (sym (after k)))
 
-  here_only : (n : ℕ) (s : Step Passing) → on_lane n (record { on = n; step = s } ∷ []) ≡ s ∷ []
+  pub here_only : (n : ℕ) (s : Step Passing) → on_lane n (record { on = n; step = s } ∷ []) ≡ s ∷ []
   here_only n s = rw (eq-eqb n n refl) refl
 
-  not_there : (n k : ℕ) (s : Step Passing) → k ≢ n → on_lane k (record { on = n; step = s } ∷ []) ≡ []
+  pub not_there : (n k : ℕ) (s : Step Passing) → k ≢ n → on_lane k (record { on = n; step = s } ∷ []) ≡ []
   not_there n k s d = rw (ne_eqb n k (λ e. d (sym e))) refl
 
   -- what a move does to the vertices on the lanes
@@ -126,21 +126,22 @@ each_move_finds_its_vertex p plan made more x a m = (
     found : MovesLanes x a.lanes (vertices_on (made ++ x ∷ []))
     found = lanes_found x a.lanes (vertices_on made) (vertices_on (made ++ x ∷ [])) m.lanes (lanes_move p plan made more x m.moves)
 
-pub sweep_begins_and_ends : SweepBeginsAndEnds
-sweep_begins_and_ends p plan = (
-  record { moves = refl; input = refl; output = refl; lanes = λ k. refl },
-  λ a m. (let e = fun_ext (λ k. m.lanes k ∙ ap vertices (empty k)) in λ i. record { input = m.input i; output = m.output i; lanes = e i }),
-)
+-- at the end no passing is on its way
+pub all_arrived : (p : SweepPlan) → IsSweepPlan p → (k : ℕ) → passings_on (moves_of p) k ≡ []
+all_arrived p plan k =
+    standing_is p plan (moves_of p) [] whole k
+    ∙ ap reverse (some_same ((rest_at p plan (moves_of p) [] whole).now k) []
+    (sym (apart Passing same_passing (on_lanes (moves_of p)) (λ k. []) (rest_at p plan (moves_of p) [] whole).now (rest_at p plan (moves_of p) [] whole).reached k)
+    ∙ apart Passing same_passing (on_lanes (moves_of p)) (λ k. []) (λ k. []) (lanes_never_mix p plan).emptied k))
   where
     whole : moves_of p ≡ moves_of p ++ []
     whole = sym (append-nil (moves_of p))
 
-    empty : (k : ℕ) → passings_on (moves_of p) k ≡ []
-    empty k =
-        standing_is p plan (moves_of p) [] whole k
-        ∙ ap reverse (some_same ((rest_at p plan (moves_of p) [] whole).now k) []
-        (sym (apart Passing same_passing (on_lanes (moves_of p)) (λ k. []) (rest_at p plan (moves_of p) [] whole).now (rest_at p plan (moves_of p) [] whole).reached k)
-        ∙ apart Passing same_passing (on_lanes (moves_of p)) (λ k. []) (λ k. []) (lanes_never_mix p plan).emptied k))
+pub sweep_begins_and_ends : SweepBeginsAndEnds
+sweep_begins_and_ends p plan = (
+  record { moves = refl; input = refl; output = refl; lanes = λ k. refl },
+  λ a m. (let e = fun_ext (λ k. m.lanes k ∙ ap vertices (all_arrived p plan k)) in λ i. record { input = m.input i; output = m.output i; lanes = e i }),
+)
 
 pub visits_split_moves : VisitsSplitMoves
 visits_split_moves p made more e = ap (flat_map (moves_at p)) e ∙ flat_map-append (moves_at p) made more

@@ -1,6 +1,6 @@
 -- The walk of the children of a cell, one after another.
-use Rattle.std.proofs.Common.{◌≡◌, ℕ, zero, suc, ◌+◌, ◌-◌, ◌*◌, ◌<◌, ◌≤◌, Bool, true, false, List, [], ◌∷◌, ◌++◌, Option, Some, None, refl, ap, ap₂, sym, ◌∙◌, subst, arith, ⊎_elim, append-nil, append_assoc, ne_eqb}
-use Rattle.std.specs.Prelude.{if◌then◌else◌, ◌||◌, ◌==◌}
+use Rattle.std.proofs.Common.{◌≡◌, ℕ, ◌+◌, ◌-◌, ◌*◌, ◌<◌, ◌≤◌, Bool, true, false, List, [], ◌++◌, Option, Some, None, refl, ap, ap₂, sym, ◌∙◌, subst, arith, ⊎_elim, append-nil, append_assoc, ne_eqb}
+use Rattle.std.specs.Prelude.{if◌then◌else◌, ◌||◌}
 use Rattle.std.proofs.lemmas.Bool.{cases_Bool, false≢true}
 use Rattle.peano_keys.specs.declared.dim.Dim.{Dim}
 use Rattle.peano_keys.specs.declared.dim.Dim.TheVariants.{Two, Three}
@@ -17,11 +17,12 @@ use Rattle.tree_automaton.specs.TreeLists.{TreeLists}
 use Rattle.tree_automaton.specs.Sweep.{TreeSweep, cell_visits}
 use Rattle.tree_automaton.specs.Promises.{Meaning}
 use Rattle.tree_automaton.specs.Story.{Story, with_calls}
-use Rattle.tree_automaton.specs.Moments.{IsDuring, IsStoreOf}
+use Rattle.tree_automaton.specs.Moments.{IsStoreOf}
 use Rattle.tree_automaton.specs.Views.{ViewFits}
-use Rattle.tree_automaton.specs.Sweeps.{BelowAsks, IsFor, VisitsGive, WalkAsks, visits_below, visits_rest}
+use Rattle.tree_automaton.specs.Sweeps.{BelowAsks, IsFor, VisitsGive, WasEntered, WalkAsks, visits_below, visits_rest}
 use Rattle.tree_automaton.proofs.Visited.{child_level, place_below, rest_first}
-use Rattle.tree_automaton.proofs.Chains.{during_next, during_joined, gives_join, gives_none}
+use Rattle.tree_automaton.proofs.Holds.{entered_more}
+use Rattle.tree_automaton.proofs.Chains.{during_next, gives_join, gives_none}
 
 pub children_most : (dim : Dim) → children dim < 28
 children_most Two = omega arith
@@ -75,6 +76,7 @@ module _ (m : Story) (made more : List Visit) (meaning : Meaning) (key c : CellK
   pub walk_asks : WalkAsks m meaning made (others ++ more) (Some view) c kind s
   walk_asks = record {
     before = record { served = asks.served; sweep = asks.sweep; of = asks.of; above = (up, subst (λ k. ViewFits m.sweep k view) (sym child) asks.view_is) };
+    above = subst (λ k. WasEntered m k view) (sym child) asks.entered;
     for_sweep = asks.for_sweep;
     cell = child_there m.sweep.plan c key child up open_;
     during = during_next m made _ _ s (ap (λ vs. vs ++ more) first_of ∙ append_assoc (cell_visits m.sweep.plan c) others more) asks.during;
@@ -100,6 +102,7 @@ module _ (m : Story) (made more : List Visit) (meaning : Meaning) (key c : CellK
       of = one.of;
       for_sweep = subst (IsFor m.sweep) (sym same) asks.for_sweep;
       view_is = asks.view_is;
+      entered = entered_more m one.calls key view asks.entered;
       during = during_next (with_calls m one.calls) made_one _ _ t (ap (λ vs. vs ++ more) (others_are next parent (own_follows next follows))) one.during;
     }
 

@@ -1,9 +1,9 @@
 -- Visits after visits.
-use Rattle.std.proofs.Common.{◌≡◌, ℕ, List, [], ◌∷◌, ◌++◌, map, refl, ap, ap₂, sym, ◌∙◌, subst, append-nil, append_assoc}
+use Rattle.std.proofs.Common.{◌≡◌, List, [], ◌∷◌, ◌++◌, refl, ap, ap₂, sym, ◌∙◌, subst, append-nil, append_assoc}
 use Rattle.std.proofs.lemmas.List.{map-append}
 use Rattle.peano_keys.specs.declared.cell.CellKey.{CellKey}
 use Rattle.peano_records.specs.declared.view.CellView.{CellView}
-use Rattle.sweep_visits.specs.Visits.{Visit, enter, leave}
+use Rattle.sweep_visits.specs.Visits.{Visit, enter}
 use Rattle.sweep_visits.specs.Moments.{moves_by}
 use Rattle.tree_automaton.specs.TreeLists.{TreeLists}
 use Rattle.tree_automaton.specs.Story.{Call, Story, with_calls}

@@ -1,11 +1,11 @@
 -- From the chain of calls to what they leave together.
-use Rattle.std.proofs.Common.{◌≡◌, ℕ, List, [], ◌∷◌, ◌++◌, refl, ap, sym, ◌∙◌, subst, append-nil, append_assoc}
+use Rattle.std.proofs.Common.{◌≡◌, List, [], ◌∷◌, ◌++◌, refl, ap, sym, ◌∙◌, subst, append-nil, append_assoc}
 use Rattle.std.specs.Prelude.{flat_map}
 use Rattle.std.proofs.lemmas.Grind.{flat_map-append}
 use Rattle.peano_records.specs.declared.view.CellView.{CellView}
 use Rattle.tree_automaton.specs.Story.{Call, Story, IsAmong, with_calls}
 use Rattle.tree_automaton.specs.Sweeps.{AllCallsFit, CallFits, Chain, Stands}
-use Rattle.tree_automaton.specs.Carries.{Collects, EachStep}
+use Rattle.tree_automaton.specs.Carries.{Collects}
 
 module _ {A : Type 0} (entered left : A → CellView → CellView → A → Type 0) where
   -- What holds as the calls begin and is kept by each call, which fits what came before it, holds after them.

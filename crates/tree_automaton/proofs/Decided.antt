@@ -1,34 +1,30 @@
 -- What the parent's view and the curve tell of a corner.
-use Rattle.std.proofs.Common.{◌≡◌, ◌↔◌, ◌⊎◌, ℕ, zero, suc, ◌+◌, ◌-◌, ◌*◌, ◌<◌, ◌≤◌, ◌^◌, Bool, true, false, Option, Some, None, refl, ap, sym, ◌∙◌, subst, arith, ⊎_elim, inl, inr, eq-eqb, ne_eqb}
-use Rattle.std.specs.Prelude.{◌&&◌, ◌||◌, ◌==◌, if◌then◌else◌, nat_lt, slice_set, slice_index, length, get_or}
-use Rattle.std.proofs.lemmas.Bool.{cases_eq, cases_Bool, false≢true, ltb-true}
-use Rattle.std.proofs.lemmas.List.{get_or-set_same, get_or-set_other}
+use Rattle.std.proofs.Common.{◌≡◌, ◌↔◌, ◌⊎◌, ℕ, ◌-◌, ◌<◌, ◌≤◌, Bool, true, false, Option, Some, None, refl, ap, sym, ◌∙◌, subst, arith, ⊎_elim, inl, inr, eq-eqb, ne_eqb}
+use Rattle.std.specs.Prelude.{◌||◌}
+use Rattle.std.proofs.lemmas.Bool.{cases_eq, cases_Bool, false≢true}
 use Rattle.peano_keys.specs.declared.dim.Dim.{Dim}
 use Rattle.peano_keys.specs.declared.dim.Dim.TheVariants.{Two, Three}
 use Rattle.peano_keys.specs.declared.cell.CellKey.{CellKey}
-use Rattle.peano_keys.specs.declared.cell.Face.{Face}
 use Rattle.peano_keys.specs.declared.vertex.VertexKey.{VertexKey}
-use Rattle.peano_keys.specs.Dim.{axes, corners}
-use Rattle.peano_keys.specs.Cell.{IsCell, at, parent_of, neighbour_of}
-use Rattle.peano_keys.specs.Vertex.{IsVertex, Touches, bit_of, corner_of, plane}
-use Rattle.peano_keys.specs.Field.{face_on}
+use Rattle.peano_keys.specs.Dim.{corners}
+use Rattle.peano_keys.specs.Cell.{IsCell, parent_of}
+use Rattle.peano_keys.specs.Vertex.{IsVertex, bit_of, corner_of}
 use Rattle.peano_keys.specs.Grid.{Spacetree, IsGrid, IsStored, has_cell, is_refined}
 use Rattle.peano_records.specs.declared.view.CellView.{CellView}
 use Rattle.peano_records.specs.declared.view.Corner.{Corner}
 use Rattle.peano_records.specs.declared.view.Corner.TheVariants.{Vertex, Hanging, Beyond}
-use Rattle.peano_records.specs.Slots.{VertexRecord, slot_at}
+use Rattle.peano_records.specs.Slots.{VertexRecord}
 use Rattle.peano_records.specs.Tells.{corner_at}
-use Rattle.hanging_nodes.specs.Above.{HoldsVertex}
-use Rattle.hanging_nodes.specs.Views.{AreGrids, AreOldAndNew, HasSlots, IsOldSlot, IsShown, Shows, IsStoredBefore, IsStoredIn}
-use Rattle.sweep_visits.specs.Plan.{SweepPlan, IsSweepPlan, IsOldGrid, dim_of, is_cell_in, is_held, is_visited, is_kept, is_stored, is_stored_in}
+use Rattle.hanging_nodes.specs.Views.{AreGrids, AreOldAndNew, HasSlots, IsShown, Shows, IsStoredBefore, IsStoredIn}
+use Rattle.sweep_visits.specs.Plan.{IsSweepPlan, IsOldGrid, dim_of, is_cell_in, is_held, is_visited, is_stored, is_stored_in}
 use Rattle.sweep_visits.proofs.Tests.{stored_told}
 use Rattle.tree_automaton.specs.declared.kinds.Serves.{Serves}
 use Rattle.tree_automaton.specs.declared.kinds.Serves.TheVariants.{Raising, Adapting, Plain}
 use Rattle.tree_automaton.specs.declared.decide.Course.{Course}
 use Rattle.tree_automaton.specs.Sweep.{TreeSweep, IsTreeSweep, GridsServe, tells_new}
-use Rattle.tree_automaton.specs.Views.{VertexFits, CornerFits, ViewFits, ParentFits}
-use Rattle.tree_automaton.specs.Decisions.{Decides, IsCourse}
-use Rattle.tree_automaton.proofs.Stored.{and_first, and_second, stored_as}
+use Rattle.tree_automaton.specs.Views.{CornerFits, ViewFits}
+use Rattle.tree_automaton.specs.Decisions.{Decides}
+use Rattle.tree_automaton.proofs.Stored.{and_second, stored_as}
 
 -- slots that tell both grids tell the old one
 slots_less : (dim : Dim) (t new : Spacetree) (after : Bool) (w : VertexKey) (s : VertexRecord) → HasSlots dim (Some t) new after w s → HasSlots dim (Some t) new false w s

@@ -4,8 +4,8 @@ use Rattle.peano_keys.proofs.Anchors.{home_is_stored}
 use Rattle.hanging_nodes.proofs.TwoGrids.{refined_there}
 use Rattle.vertex_stacks.specs.declared.kind.Kind.{Kind}
 use Rattle.peano_keys.specs.declared.dim.Dim.TheVariants.{Two, Three}
-use Rattle.std.proofs.Common.{lit<, ◌%◌, ◌≡◌, ◌↔◌, ◌⊎◌, ℕ, zero, suc, ◌+◌, ◌-◌, ◌<◌, ◌≤◌, Bool, true, false, List, [], ◌∷◌, ◌++◌, Option, Some, None, length, refl, ap, ap₂, sym, ◌∙◌, subst, arith, ⊎_elim, inl, inr, ne_eqb}
-use Rattle.std.specs.Prelude.{◌&&◌, ◌||◌, ◌==◌, if◌then◌else◌, slice_index_or}
+use Rattle.std.proofs.Common.{lit<, ◌%◌, ◌≡◌, ℕ, ◌<◌, ◌≤◌, Bool, true, false, List, [], ◌∷◌, ◌++◌, Option, Some, None, length, refl, ap, sym, ◌∙◌, subst, arith, ⊎_elim, inl, inr, ne_eqb}
+use Rattle.std.specs.Prelude.{◌||◌, ◌==◌, if◌then◌else◌, slice_index_or}
 use Rattle.std.proofs.lemmas.Bool.{cases_Bool, false≢true}
 use Rattle.peano_keys.specs.declared.dim.Dim.{Dim}
 use Rattle.peano_keys.specs.declared.cell.CellKey.{CellKey}
@@ -13,18 +13,16 @@ use Rattle.peano_keys.specs.declared.vertex.VertexKey.{VertexKey}
 use Rattle.peano_keys.specs.Dim.{corners}
 use Rattle.peano_keys.specs.Cell.{IsCell, at, parent_of}
 use Rattle.peano_keys.specs.Vertex.{IsVertex, corner_of, inner_bit, home_of, slot_from, adjacent_of}
-use Rattle.peano_keys.specs.Grid.{Spacetree, IsGrid, IsStored, has_cell, is_refined}
+use Rattle.peano_keys.specs.Grid.{Spacetree, IsStored, has_cell, is_refined}
 use Rattle.peano_keys.specs.Field.{value_of, sides_of}
-use Rattle.peano_keys.specs.Laws.{StandsInSlot, HomeIsStored}
 use Rattle.peano_records.specs.declared.view.CellView.{CellView}
 use Rattle.peano_records.specs.declared.view.CellRecord.{CellRecord}
 use Rattle.peano_records.specs.declared.view.Corner.{Corner}
 use Rattle.peano_records.specs.declared.view.Corner.TheVariants.{Vertex, Hanging, Beyond}
-use Rattle.peano_records.specs.Slots.{VertexRecord, fresh}
 use Rattle.peano_records.specs.AtRest.{SaysOfCells, HoldsCell}
 use Rattle.peano_records.specs.Tells.{corner_at}
-use Rattle.hanging_nodes.specs.Views.{AreOldAndNew, HasSlots, IsStoredBefore}
-use Rattle.hanging_nodes.specs.Sides.{IsCornerOf, AreCornersOf, KnowsSides}
+use Rattle.hanging_nodes.specs.Views.{HasSlots, IsStoredBefore}
+use Rattle.hanging_nodes.specs.Sides.{IsCornerOf, KnowsSides}
 use Rattle.std.specs.Prelude.{map, flat_map, count_by}
 use Rattle.std.proofs.Common.{append-nil, append_assoc}
 use Rattle.std.proofs.lemmas.Grind.{flat_map-append}
@@ -32,7 +30,7 @@ use Rattle.stack_law.specs.Once.{IsIn}
 use Rattle.peano_records.specs.declared.stored.Stored.{Stored}
 use Rattle.vertex_stacks.specs.Tales.{capped}
 use Rattle.sweep_visits.specs.Plan.{SweepPlan, IsSweepPlan, dim_of, is_cell_in, is_refined_in, is_held, is_visited, is_kept, is_stored, is_stored_in}
-use Rattle.sweep_visits.specs.Visits.{Visit, enter, leave, visits_of}
+use Rattle.sweep_visits.specs.Visits.{Visit, enter, visits_of}
 use Rattle.sweep_visits.specs.Runs.{previous_in_run}
 use Rattle.sweep_visits.specs.Moves.{Move}
 use Rattle.sweep_visits.specs.Moments.{moves_by, arrivals_below}
@@ -46,12 +44,12 @@ use Rattle.tree_automaton.specs.TreeLists.{TreeLists}
 use Rattle.tree_automaton.specs.Sweep.{TreeSweep, IsTreeSweep, GridsServe, flag_in, record_in, is_owned_leaf, served_by, tells_new}
 use Rattle.tree_automaton.specs.Story.{Story}
 use Rattle.tree_automaton.specs.Moments.{HoldsVertices, HoldsCells, IsDuring, flag_of}
-use Rattle.tree_automaton.specs.Decisions.{Decides, IsCourse}
-use Rattle.tree_automaton.specs.Views.{KnowsField, HasValues, VertexFits, CornerFits, CornerGiven, IsMade, ViewFits, ParentFits, value_in, value_at_home}
-use Rattle.tree_automaton.specs.Visits.{CornerTaken, ComesFrom, EnterAsks, EnterGives, IsBefore, FirstWill, ViewTaken, will_first}
+use Rattle.tree_automaton.specs.Decisions.{Decides}
+use Rattle.tree_automaton.specs.Views.{KnowsField, HasValues, CornerFits, CornerGiven, value_in, value_at_home}
+use Rattle.tree_automaton.specs.Visits.{CornerTaken, ComesFrom, EnterAsks, EnterGives, FirstWill, will_first}
 use Rattle.tree_automaton.specs.Corners.{ReadAsks, ReadGives, AreTaken, AreBeyond, CornersAsk, CornersGive, MovesVertices}
 use Rattle.tree_automaton.proofs.Stored.{and_second, and_both, not_kept, not_kept_before}
-use Rattle.tree_automaton.proofs.Decided.{corner_vertex, old_grid, old_of, sweep_plan}
+use Rattle.tree_automaton.proofs.Decided.{corner_vertex, old_grid, sweep_plan}
 use Rattle.tree_automaton.proofs.Moves.{enter_moves, made_is, moves_split}
 
 -- the old grid has the plan's dimension

@@ -1,54 +1,52 @@
 -- Corners given one by one, and the record of a cell.
-use Rattle.std.proofs.Common.{inl, inr, ◌≡◌, ◌⊎◌, ℕ, zero, suc, ◌+◌, ◌-◌, ◌<◌, ◌≤◌, Bool, true, false, List, [], ◌∷◌, ◌++◌, Option, Some, None, map, length, get_or, set, refl, ap, ap₂, sym, ◌∙◌, subst, arith, ⊎_elim, append-nil, append_assoc}
+use Rattle.std.proofs.Common.{inl, inr, ◌≡◌, ℕ, zero, suc, ◌+◌, ◌<◌, Bool, true, false, List, [], ◌∷◌, ◌++◌, Option, Some, None, map, length, get_or, set, refl, ap, ap₂, sym, ◌∙◌, subst, arith, ⊎_elim, append-nil, append_assoc}
 use Rattle.std.proofs.lemmas.Int.{ints}
-use Rattle.std.specs.Prelude.{ℤ, pos, ◌≤ℤ◌, ◌+ℤ◌, if◌then◌else◌, cond, not, ◌||◌, ◌&&◌, slice_index_or, flat_map, count_by, sum_by}
-use Rattle.std.proofs.lemmas.Bool.{cases_Bool, false≢true}
-use Rattle.std.proofs.lemmas.List.{map-append}
+use Rattle.std.specs.Prelude.{ℤ, pos, ◌≤ℤ◌, ◌+ℤ◌, if◌then◌else◌, cond, not, ◌||◌, slice_index_or, flat_map, count_by}
+use Rattle.std.proofs.lemmas.Bool.{false≢true}
+use Rattle.std.proofs.lemmas.List.{map-append, set-get_or}
 use Rattle.std.proofs.lemmas.Grind.{flat_map-append}
 use Rattle.std.proofs.lemmas.List.Sums.{sum_by-append}
 use Rattle.stack_law.specs.Once.{IsIn}
 use Rattle.peano_keys.specs.declared.cell.CellKey.{CellKey}
 use Rattle.peano_keys.specs.declared.vertex.VertexKey.{VertexKey}
-use Rattle.peano_keys.specs.declared.dim.Dim.{Dim}
-use Rattle.peano_keys.specs.Dim.{axes, corners}
+use Rattle.peano_keys.specs.Dim.{corners}
 use Rattle.peano_keys.specs.Cell.{IsCell}
 use Rattle.peano_keys.specs.Vertex.{IsVertex, corner_of}
 use Rattle.peano_keys.specs.Grid.{Spacetree, IsStored, has_cell, is_refined}
 use Rattle.peano_records.specs.declared.stored.Stored.{Stored}
-use Rattle.peano_records.specs.declared.view.CellRecord.{CellRecord}
 use Rattle.peano_records.specs.declared.view.CellView.{CellView}
 use Rattle.peano_records.specs.declared.view.Corner.{Corner}
 use Rattle.peano_records.specs.declared.view.Corner.TheVariants.{Vertex, Hanging, Beyond}
 use Rattle.peano_records.specs.Slots.{VertexRecord}
-use Rattle.peano_records.specs.Tells.{corner_at}
 use Rattle.hanging_nodes.specs.Views.{HasSlots, IsStoredBefore}
 use Rattle.vertex_stacks.specs.declared.kind.Kind.{Kind}
-use Rattle.vertex_stacks.specs.Lists.{SweepLists, lane_at}
+use Rattle.vertex_stacks.specs.Lists.{lane_at}
 use Rattle.vertex_stacks.specs.Tales.{capped}
 use Rattle.sweep_visits.specs.Plan.{SweepPlan, IsSweepPlan, dim_of, is_cell_in, is_held, is_kept, is_stored, is_stored_in, is_visited}
-use Rattle.sweep_visits.specs.Visits.{Visit, enter, leave, visits_of}
+use Rattle.sweep_visits.specs.Visits.{Visit, leave, visits_of}
 use Rattle.sweep_visits.specs.Runs.{next_in_run}
-use Rattle.sweep_visits.specs.Moves.{Move, push, put, passing, corner_out}
+use Rattle.sweep_visits.specs.Moves.{Move, passing, corner_out}
 use Rattle.sweep_visits.specs.Moments.{moves_by, departures_from}
 use Rattle.sweep_visits.proofs.Tests.{stored_tells, stored_told}
-use Rattle.sweep_streams.specs.Records.{read_at, written_at, left_at}
+use Rattle.sweep_streams.specs.Records.{written_at, left_at}
 use Rattle.sweep_streams.proofs.Records.{each_held_cell_once}
 use Rattle.sweep_streams.proofs.Lists.{sum-cons}
 use Rattle.tree_automaton.specs.declared.decide.Course.{Course}
 use Rattle.tree_automaton.specs.declared.decide.Exit.TheVariants as exit
 use Rattle.tree_automaton.specs.TreeLists.{TreeLists}
-use Rattle.tree_automaton.specs.Sweep.{TreeSweep, IsTreeSweep, flag_in, is_owned, is_owned_leaf, tells_new, served_by}
-use Rattle.tree_automaton.specs.Story.{Call, IsAmong, Story, WasLeft, with_calls}
-use Rattle.tree_automaton.specs.Moments.{HoldsVertices, HoldsCells, IsDuring, flag_of, record_by, record_of, records_of}
+use Rattle.tree_automaton.specs.Sweep.{TreeSweep, IsTreeSweep, is_owned_leaf, tells_new, served_by}
+use Rattle.tree_automaton.specs.Story.{Call, Story, WasLeft, with_calls}
+use Rattle.tree_automaton.specs.Moments.{HoldsVertices, HoldsCells, flag_of, record_by, record_of, records_of}
 use Rattle.tree_automaton.specs.Decisions.{Decides, ExitIs}
 use Rattle.tree_automaton.specs.Views.{VertexFits, CornerFits}
-use Rattle.tree_automaton.specs.Visits.{IsBefore, LeaveAsks, LeaveGives, left_with, vertex_part, vertices_in}
-use Rattle.tree_automaton.specs.Corners.{IsLeftWith, GiveAsks, GiveGives, GiveAllAsks, GivenBelow, MovesVertices, is_leaf_left}
+use Rattle.tree_automaton.specs.Visits.{LeaveAsks, LeaveGives, left_with, vertex_part}
+use Rattle.tree_automaton.specs.Corners.{GiveAsks, GiveGives, GiveAllAsks, GivenBelow, MovesVertices, is_leaf_left}
 use Rattle.tree_automaton.proofs.Stored.{and_both}
-use Rattle.tree_automaton.proofs.Decided.{corner_vertex, old_grid, sweep_plan}
+use Rattle.tree_automaton.proofs.Takes.{vertices_from, one_counted}
+use Rattle.tree_automaton.proofs.Decided.{corner_vertex, sweep_plan}
 use Rattle.tree_automaton.proofs.Entered.{old_dim}
 use Rattle.tree_automaton.proofs.Holds.{was_put, was_pushed, holds_more}
-use Rattle.tree_automaton.proofs.Moves.{goes_by_lane, goes_to_output, goes_nowhere, goes_not, comes_next, was_made, nothing_moves, made_is, moves_split, leave_moves, lane_below_six}
+use Rattle.tree_automaton.proofs.Moves.{goes_by_lane, goes_to_output, goes_nowhere, goes_not, comes_next, was_made, nothing_moves, made_is, moves_split, leave_moves}
 
 or_left : (a b : Bool) → a ≡ true → (a || b) ≡ true
 or_left true b e = refl
@@ -138,11 +136,9 @@ get_or_any [] n d e h = absurd (omega arith)
 get_or_any (x ∷ xs) zero d e h = refl
 get_or_any (x ∷ xs) (suc n) d e h = get_or_any xs n d e (omega arith)
 
--- a corner that is taken out of its place counts no longer
-pub one_less : (cs : List Corner) (k : ℕ) → k < length cs → vertices_in (set cs k Beyond) + vertex_part (get_or cs k Beyond) ≡ vertices_in cs
-one_less [] k h = absurd (omega arith)
-one_less (x ∷ cs) zero h = omega arith
-one_less (x ∷ cs) (suc k) h = let r : vertices_in (set cs k Beyond) + vertex_part (get_or cs k Beyond) ≡ vertices_in cs = one_less cs k (omega arith) in omega (arith, r)
+-- the vertices from a corner on are that corner's and those after it
+pub from_here : (cs : List Corner) (n : ℕ) → n < length cs → vertices_from n cs ≡ vertex_part (get_or cs n Beyond) + vertices_from (n + 1) cs
+from_here cs n inside = ap (vertices_from n) (sym (set-get_or cs n Beyond)) ∙ one_counted cs n (get_or cs n Beyond) inside
 
 pub records_more : (xs ys : List Call) → records_of (xs ++ ys) ≡ records_of xs ++ records_of ys
 records_more [] ys = refl
@@ -254,14 +250,13 @@ module _ (m : Story) (made more : List Visit) (parent : Option CellView) (c : Ce
     }
 
 -- what is left to give and what was given are what there was
-pub spare_kept : (cs : List Corner) (n : ℕ) (x k : Corner) (a b d : ℤ) (all : ℕ) → n < length cs → x ≡ Beyond → k ≡ get_or cs n Beyond → (a +ℤ pos (vertices_in cs)) ≤ℤ (b +ℤ pos all) → b ≤ℤ (d +ℤ pos (vertex_part k)) → (a +ℤ pos (vertices_in (set cs n x))) ≤ℤ (d +ℤ pos all)
-spare_kept cs n x k a b d all inside gone here old one =
-    let less : vertices_in (set cs n Beyond) + vertex_part k ≡ vertices_in cs = ap (λ j. vertices_in (set cs n Beyond) + vertex_part j) here ∙ one_less cs n inside in
-    let same : vertices_in (set cs n x) ≡ vertices_in (set cs n Beyond) = ap (λ j. vertices_in (set cs n j)) gone in
-    omega (arith, ints, less, same, old, one)
+pub spare_kept : (cs : List Corner) (n : ℕ) (k : Corner) (a b d : ℤ) (all : ℕ) → n < length cs → k ≡ get_or cs n Beyond → (a +ℤ pos (vertices_from n cs)) ≤ℤ (b +ℤ pos all) → b ≤ℤ (d +ℤ pos (vertex_part k)) → (a +ℤ pos (vertices_from (n + 1) cs)) ≤ℤ (d +ℤ pos all)
+spare_kept cs n k a b d all inside here old one =
+    let now : vertices_from n cs ≡ vertex_part k + vertices_from (n + 1) cs = from_here cs n inside ∙ ap (λ j. vertex_part j + vertices_from (n + 1) cs) (sym here) in
+    omega (arith, ints, now, old, one)
 
 -- room for all is room for one
-pub room_for_one : (cs : List Corner) (n : ℕ) (k : Corner) (a b : ℤ) (all : ℕ) → n < length cs → k ≡ get_or cs n Beyond → (a +ℤ pos (vertices_in cs)) ≤ℤ (b +ℤ pos all) → pos all ≤ℤ a → pos (vertex_part k) ≤ℤ b
+pub room_for_one : (cs : List Corner) (n : ℕ) (k : Corner) (a b : ℤ) (all : ℕ) → n < length cs → k ≡ get_or cs n Beyond → (a +ℤ pos (vertices_from n cs)) ≤ℤ (b +ℤ pos all) → pos all ≤ℤ a → pos (vertex_part k) ≤ℤ b
 room_for_one cs n k a b all inside here old room =
-    let less : vertices_in (set cs n Beyond) + vertex_part k ≡ vertices_in cs = ap (λ j. vertices_in (set cs n Beyond) + vertex_part j) here ∙ one_less cs n inside in
-    omega (arith, ints, less, old, room)
+    let now : vertices_from n cs ≡ vertex_part k + vertices_from (n + 1) cs = from_here cs n inside ∙ ap (λ j. vertex_part j + vertices_from (n + 1) cs) (sym here) in
+    omega (arith, ints, now, old, room)

@@ -1,19 +1,21 @@
 -- One move more was made.
-use Rattle.std.proofs.Common.{◌≡◌, ◌≢◌, ℕ, ◌+◌, ◌<◌, List, [], ◌∷◌, ◌++◌, length, get_or, set, Option, refl, ap, sym, ◌∙◌, subst, arith, append_assoc, append-nil, length-set, ⊎_elim}
+use Rattle.std.proofs.Common.{◌≡◌, ◌≢◌, ℕ, ◌+◌, ◌<◌, List, [], ◌∷◌, ◌++◌, length, set, Option, ap, sym, ◌∙◌, subst, arith, append_assoc, append-nil, length-set, ⊎_elim}
 use Rattle.std.proofs.lemmas.Bool.{cases_eq}
 use Rattle.std.proofs.lemmas.Grind.{flat_map-append}
 use Rattle.std.proofs.lemmas.List.{get_or-set_same, get_or-set_other}
 use Rattle.peano_keys.specs.declared.cell.CellKey.{CellKey}
 use Rattle.peano_keys.specs.declared.vertex.VertexKey.{VertexKey}
 use Rattle.peano_records.specs.declared.stored.Stored.{Stored}
+use Rattle.peano_records.specs.declared.view.CellView.{CellView}
 use Rattle.vertex_stacks.specs.Lists.{SweepLists, lane_at}
 use Rattle.vertex_stacks.specs.Tales.{capped}
 use Rattle.sweep_visits.specs.Plan.{IsSweepPlan}
-use Rattle.sweep_visits.specs.Moves.{Move, Passing, take, pop, push, put, moves_of, taken_by, put_by, input_part, output_part}
+use Rattle.sweep_visits.specs.Moves.{Move, Passing, take, pop, push, put, taken_by, put_by, input_part, output_part}
 use Rattle.sweep_visits.specs.Moments.{passings_on}
 use Rattle.sweep_streams.specs.Counts.{pushed_by, pushed_part}
 use Rattle.tree_automaton.specs.Story.{Call, Story, IsAmong, IsOfInput, IsOfOutput, IsOnLane, Matched, WasLeft, with_calls}
 use Rattle.tree_automaton.specs.Moments.{HoldsVertices}
+use Rattle.tree_automaton.specs.Sweeps.{WasEntered}
 use Rattle.tree_automaton.proofs.Matches.{matched_last, matched_more, matched_none, matched_no_first, matched_along, one_more, none_more}
 use Rattle.tree_automaton.proofs.Passings.{take_stays, put_stays, pop_finds, pop_stays, push_gives, push_stays}
 
@@ -126,6 +128,9 @@ module _ (m : Story) (plan : IsSweepPlan m.sweep.plan) (made more : List Move) (
 module _ (m : Story) (calls : List Call) where
   pub among_more : (call : Call) → IsAmong call m.calls → IsAmong call (m.calls ++ calls)
   among_more call h = record { before = h.before; after = h.after ++ calls; place = ap (λ l. l ++ calls) h.place ∙ append_assoc h.before (call ∷ h.after) calls }
+
+  pub entered_more : (c : CellKey) (view : CellView) → WasEntered m c view → WasEntered (with_calls m calls) c view
+  entered_more c view h = record { call = h.call; among = among_more h.call h.among; visit = h.visit; same = h.same }
 
   pub left_more : (w : VertexKey) (to : Option CellKey) (s : Stored) → WasLeft m w to s → WasLeft (with_calls m calls) w to s
   left_more w to s h = record { call = h.call; among = among_more h.call h.among; cell = h.cell; visit = h.visit; next = h.next; number = h.number; below = h.below; place = h.place; corner = h.corner }

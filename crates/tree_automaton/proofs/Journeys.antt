@@ -1,22 +1,20 @@
 -- Along the run of a vertex.
-use Rattle.std.proofs.Common.{◌≡◌, ◌⊎◌, ℕ, zero, suc, ◌+◌, ◌<◌, ◌≤◌, Bool, true, false, List, [], ◌∷◌, ◌++◌, Option, Some, None, length, refl, ap, sym, ◌∙◌, subst, arith, inl, inr, append_assoc, append-nil, length-append}
+use Rattle.std.proofs.Common.{◌≡◌, ℕ, zero, suc, ◌+◌, ◌<◌, Bool, true, false, List, [], ◌∷◌, ◌++◌, Option, Some, None, length, refl, ap, sym, ◌∙◌, subst, arith, inl, inr, append_assoc, append-nil, length-append}
 use Rattle.peano_keys.specs.declared.cell.CellKey.{CellKey}
 use Rattle.peano_keys.specs.declared.vertex.VertexKey.{VertexKey}
 use Rattle.peano_keys.specs.Dim.{corners}
 use Rattle.peano_keys.specs.Vertex.{corner_of}
 use Rattle.peano_records.specs.declared.stored.Stored.{Stored}
-use Rattle.peano_records.specs.declared.view.CellView.{CellView}
 use Rattle.peano_records.specs.declared.view.Corner.{Corner}
 use Rattle.peano_records.specs.declared.view.Corner.TheVariants.{Vertex, Hanging, Beyond}
-use Rattle.peano_records.specs.Slots.{fresh}
 use Rattle.peano_records.specs.Tells.{corner_at}
 use Rattle.vertex_stacks.specs.declared.tale.Tale.{Tale}
 use Rattle.sweep_visits.specs.Plan.{dim_of, is_stored_in}
-use Rattle.sweep_visits.specs.Visits.{Visit, enter, leave}
+use Rattle.sweep_visits.specs.Visits.{leave}
 use Rattle.sweep_visits.specs.Runs.{next_in_run, previous_in_run}
 use Rattle.tree_automaton.specs.Sweep.{TreeSweep}
 use Rattle.tree_automaton.specs.Promises.{SameCorner}
-use Rattle.tree_automaton.specs.Story.{Call, Story, IsAmong, IsOfInput, WasLeft, with_calls}
+use Rattle.tree_automaton.specs.Story.{Call, Story, WasLeft, with_calls}
 use Rattle.tree_automaton.specs.Visits.{ComesFrom, CornerTaken}
 use Rattle.tree_automaton.specs.Sweeps.{AllCallsFit, CallFits, IsEntered, IsLeft, begun}
 use Rattle.tree_automaton.specs.Journeys.{CellChanged, EachRecordHasAJourney, IsFirstRecord, IsJourney, Stop}
@@ -51,19 +49,19 @@ module _ (p : TreeSweep) (start : List Stored) (tale : Tale) (calls : List Call)
     at_leave zero before call after place few c visit n below corner t made = absurd (omega arith)
     at_leave (suc fuel) before call after place few c visit n below corner t made =
         let left : IsLeft (with_calls m before) c call.given call.made = subst (λ v. CallFits (with_calls m before) v call.given call.made) visit (fits_at m before call after (subst (AllCallsFit m) place fit)) in
-        let e = left.call in
-        let b1 = left.among.before in
-        let rest = left.among.after ++ call ∷ after in
-        let e_place : calls ≡ b1 ++ e ∷ rest = place ∙ (ap (λ l. l ++ call ∷ after) left.among.place ∙ append_assoc b1 (e ∷ left.among.after) (call ∷ after)) in
-        let entered : IsEntered (with_calls m b1) c e.given e.made = subst (λ v. CallFits (with_calls m b1) v e.given e.made) left.visit (fits_at m b1 e rest (subst (AllCallsFit m) e_place fit)) in
+        let e = left.entered.call in
+        let b1 = left.entered.among.before in
+        let rest = left.entered.among.after ++ call ∷ after in
+        let e_place : calls ≡ b1 ++ e ∷ rest = place ∙ (ap (λ l. l ++ call ∷ after) left.entered.among.place ∙ append_assoc b1 (e ∷ left.entered.among.after) (call ∷ after)) in
+        let entered : IsEntered (with_calls m b1) c e.given e.made = subst (λ v. CallFits (with_calls m b1) v e.given e.made) left.entered.visit (fits_at m b1 e rest (subst (AllCallsFit m) e_place fit)) in
         let u = was_vertex (corner_at call.given n) (corner_at call.made n) t (left.keeps.corners_stay n) made in
-        let u_made : corner_at e.made n ≡ Vertex u.0 = ap (λ v. corner_at v n) (sym left.same) ∙ u.1 in
+        let u_made : corner_at e.made n ≡ Vertex u.0 = ap (λ v. corner_at v n) (sym left.entered.same) ∙ u.1 in
         let s = was_vertex (corner_at e.given n) (corner_at e.made n) u.0 (entered.keeps.corners_stay n) u_made in
         let taken : CornerTaken (with_calls m b1) c w (Vertex s.0) = subst (λ k. CornerTaken (with_calls m b1) c w k) s.1 (subst (λ v. CornerTaken (with_calls m b1) c v (corner_at e.given n)) corner (entered.taken n below)) in
         let changed : CellChanged told c n s.0 t = record {
           entering = e;
           entering_among = record { before = b1; after = rest; place = e_place };
-          enters = left.visit;
+          enters = left.entered.visit;
           view = entered.view;
           keeps = entered.keeps;
           may = entered.may;
@@ -73,13 +71,13 @@ module _ (p : TreeSweep) (start : List Stored) (tale : Tale) (calls : List Call)
           leaving = call;
           leaving_among = record { before = before; after = after; place = place };
           leaves = visit;
-          same = left.same;
+          same = left.entered.same;
           view_left = left.view;
           keeps_left = left.keeps;
           may_left = left.may;
           made = made;
         } in
-        let fewer : length b1 < length before = (let h : length before ≡ length b1 + length (e ∷ left.among.after) = ap length left.among.place ∙ length-append b1 (e ∷ left.among.after) in omega (arith, h)) in
+        let fewer : length b1 < length before = (let h : length before ≡ length b1 + length (e ∷ left.entered.among.after) = ap length left.entered.among.place ∙ length-append b1 (e ∷ left.entered.among.after) in omega (arith, h)) in
         by (λ before' call' after' place' few' c' visit' n' below' corner' t' made'. at_leave fuel before' call' after' place' few' c' visit' n' below' corner' t' made') s.0 changed b1 e rest e_place (omega (arith, few, fewer)) (previous_in_run p.plan w c) (is_stored_in p.plan.old w) refl taken.1
       where
         by : Earlier fuel → (s : Stored) → CellChanged told c n s t → (b1 : List Call) (e : Call) (rest : List Call) → calls ≡ b1 ++ e ∷ rest → length b1 < fuel → (o : Option CellKey) (b : Bool) → previous_in_run p.plan w c ≡ o → ComesFrom (with_calls m b1) c w o b s → P c t

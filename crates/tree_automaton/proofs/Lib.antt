@@ -22,3 +22,4 @@ pub mod Collects
 pub mod Lists
 pub mod Rests
 pub mod Pages
+pub mod Places

@@ -1,15 +1,15 @@
 -- The moves of one corner, from where it comes and where it goes.
-use Rattle.std.proofs.Common.{◌≡◌, ℕ, zero, suc, ◌+◌, ◌<◌, ◌*◌, Bool, true, false, List, [], ◌∷◌, ◌++◌, Option, Some, None, refl, ap, sym, ◌∙◌, subst, arith, append_assoc, append-nil}
+use Rattle.std.proofs.Common.{◌≡◌, ℕ, ◌<◌, ◌*◌, true, false, List, [], ◌∷◌, ◌++◌, Option, Some, None, ap, sym, ◌∙◌, subst, arith, append-nil}
 use Rattle.std.proofs.lemmas.List.{append_cancel_right}
 use Rattle.std.proofs.lemmas.Grind.{flat_map-append}
-use Rattle.std.specs.Prelude.{if◌then◌else◌, flat_map}
+use Rattle.std.specs.Prelude.{if◌then◌else◌}
 use Rattle.peano_keys.specs.declared.dim.Dim.{Dim}
 use Rattle.peano_keys.specs.declared.dim.Dim.TheVariants.{Two, Three}
 use Rattle.peano_keys.specs.declared.cell.CellKey.{CellKey}
 use Rattle.peano_keys.specs.declared.vertex.VertexKey.{VertexKey}
 use Rattle.peano_keys.specs.Dim.{axes, corners}
 use Rattle.vertex_stacks.specs.Lists.{SweepLists}
-use Rattle.sweep_visits.specs.Plan.{SweepPlan, IsSweepPlan, dim_of, is_kept, is_stored, is_stored_in}
+use Rattle.sweep_visits.specs.Plan.{SweepPlan, dim_of, is_kept, is_stored, is_stored_in}
 use Rattle.sweep_visits.specs.Visits.{Visit, enter, leave, visits_of}
 use Rattle.sweep_visits.specs.Runs.{next_in_run, previous_in_run, lane_between}
 use Rattle.sweep_visits.specs.Moves.{Move, take, put, pop, push, passing, arrives, departs, corner_in, corner_out, moves_at, moves_of}

@@ -1,12 +1,11 @@
 -- Whether a sweep goes below a cell, from its view.
-use Rattle.std.proofs.Common.{◌≡◌, Bool, true, false, Option, Some, None, refl, ap, ap₂, sym, ◌∙◌, subst, ⊎_elim}
+use Rattle.std.proofs.Common.{◌≡◌, Bool, true, false, Option, Some, None, refl, ap, sym, ◌∙◌}
 use Rattle.std.specs.Prelude.{◌||◌, if◌then◌else◌}
-use Rattle.std.proofs.lemmas.Bool.{cases_Bool, false≢true}
 use Rattle.peano_keys.specs.declared.cell.CellKey.{CellKey}
-use Rattle.peano_keys.specs.Grid.{Spacetree, IsGrid, has_cell, is_refined}
+use Rattle.peano_keys.specs.Grid.{Spacetree, has_cell, is_refined}
 use Rattle.peano_records.specs.declared.view.CellView.{CellView}
 use Rattle.hanging_nodes.proofs.TwoGrids.{refined_there}
-use Rattle.sweep_visits.specs.Plan.{is_cell_in, is_refined_in, is_opened}
+use Rattle.sweep_visits.specs.Plan.{is_refined_in, is_opened}
 use Rattle.tree_automaton.specs.Sweep.{TreeSweep, IsTreeSweep, flag_in}
 use Rattle.tree_automaton.specs.Views.{ViewFits, says}
 use Rattle.tree_automaton.proofs.Decided.{old_grid}

@@ -1,12 +1,10 @@
 -- Pages of the lists of a sweep.
 use Rattle.std.proofs.Common.{Result, Ok, Err, ◌≡◌, ℕ, ◌≤◌, ℤ, refl, sym, ap, ◌∙◌, subst, arith}
-use Rattle.std.specs.Prelude.{Vec, vec_len, vec_capacity, reverse, min, OnOk, OnErr, IfErr, IsTrue, ◌↔◌, max, ◌-◌, ◌+◌, ◌*◌, ◌^◌, ◌<◌, Bool, true, false, length, pos, ◌≤ℤ◌, ◌-ℤ◌}
+use Rattle.std.specs.Prelude.{Vec, vec_len, vec_capacity, reverse, min, OnOk, OnErr, ◌↔◌, max, ◌-◌, ◌^◌, ◌<◌, length, pos, ◌≤ℤ◌, ◌-ℤ◌}
 use Rattle.std.proofs.lemmas.Int.{ints}
 use Rattle.std.proofs.lemmas.List.{length-reverse}
 use Rattle.std.specs.declared.alloc.Global.{Global}
 use Rattle.peano_records.specs.declared.view.CellRecord.{CellRecord}
-use Rattle.std.proofs.lemmas.Bool.{false≢true}
-use Rattle.peano_keys.specs.declared.dim.Dim.{Dim}
 use Rattle.vertex_stacks.specs.Lists.{SweepLists, held, pages_of, room_of}
 use Rattle.tree_automaton.specs.TreeLists.{TreeLists, IsRoomy, page_count, room_in}
 
@@ -46,11 +44,6 @@ reserved_room a b d stored room spare lists is enough left still few =
 
     is_room : room ≡ room_of b → room ≡ room_in b.dim (page_count b)
     is_room e = e ∙ room_is b
-
--- what comes back beside
-pub err_same : {T : Type 0} {E : Type 0} (P : E → Type 0) (Q : Type 0) (r : Result T E) → IfErr r (λ e. P e × Q) → OnErr r Q
-err_same P Q (Ok x) h = tt
-err_same P Q (Err e) h = h.1
 
 -- a store is not roomy where its count of vertices is at its end, or where there are too few pages; else it is where its streams have room
 pub not_exact : (s : TreeLists) → s.stored ≡ 2 ^ 64 - 1 → IsRoomy s → ⊥

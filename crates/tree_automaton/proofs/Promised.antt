@@ -1,5 +1,5 @@
 -- What a visitor keeps of a view.
-use Rattle.std.proofs.Common.{◌≡◌, ◌↔◌, ◌⊎◌, ℕ, zero, suc, ◌+◌, ◌<◌, ◌≤◌, Bool, true, false, Option, Some, None, length, refl, ap, sym, ◌∙◌, subst, ⊎_elim, inl, inr, arith}
+use Rattle.std.proofs.Common.{◌≡◌, ◌↔◌, ◌⊎◌, ℕ, zero, suc, ◌<◌, Bool, true, false, Option, Some, None, length, refl, ap, sym, ◌∙◌, subst, ⊎_elim, inl, inr, arith}
 use Rattle.std.specs.Prelude.{if◌then◌else◌, IfSome, nat_lt}
 use Rattle.std.proofs.lemmas.Bool.{cases_Bool, false≢true, lt-ltb}
 use Rattle.peano_keys.specs.declared.dim.Dim.{Dim}
@@ -9,28 +9,27 @@ use Rattle.peano_keys.specs.declared.vertex.VertexKey.{VertexKey}
 use Rattle.peano_keys.specs.Dim.{corners}
 use Rattle.peano_keys.specs.Cell.{IsCell}
 use Rattle.peano_keys.specs.Vertex.{IsVertex, Touches, adjacent_of, corner_of}
-use Rattle.peano_keys.specs.Grid.{Spacetree, IsStored, has_cell, is_refined, is_leaf}
+use Rattle.peano_keys.specs.Grid.{Spacetree, IsStored, has_cell, is_refined}
 use Rattle.peano_keys.proofs.Positions.{adjacent_touches}
 use Rattle.peano_records.specs.declared.slot.Slot.{Slot}
-use Rattle.peano_records.specs.declared.slot.Status.{Status}
 use Rattle.peano_records.specs.declared.slot.Status.TheVariants.{Unset, Outside, Leaf, Refined}
 use Rattle.peano_records.specs.declared.slot.Intent.TheVariants.{Stay, Split, Merge}
 use Rattle.peano_records.specs.declared.view.CellView.{CellView}
 use Rattle.peano_records.specs.declared.view.Corner.{Corner}
 use Rattle.peano_records.specs.declared.view.Corner.TheVariants.{Vertex, Hanging, Beyond}
 use Rattle.peano_records.specs.Slots.{VertexRecord, slot_at, fresh, first_status}
-use Rattle.peano_records.specs.AtRest.{SaysOfCells, SaysOutside, HoldsCell, status_of}
+use Rattle.peano_records.specs.AtRest.{SaysOfCells, HoldsCell, status_of}
 use Rattle.peano_records.specs.Tells.{corner_at}
-use Rattle.hanging_nodes.specs.Views.{HasSlots, IsOldSlot, IsNewSlot, IsFirstSlot, IsStoredBefore}
+use Rattle.hanging_nodes.specs.Views.{HasSlots, IsOldSlot, IsNewSlot, IsFirstSlot, IsShown, IsStoredBefore}
 use Rattle.hanging_nodes.proofs.TwoGrids.{leaf_of, stay_not_split, stay_not_merge}
 use Rattle.hanging_nodes.proofs.Told.{refined_is}
 use Rattle.sweep_visits.specs.Plan.{dim_of}
 use Rattle.tree_automaton.specs.declared.kinds.Serves.{Serves}
 use Rattle.tree_automaton.specs.declared.kinds.Serves.TheVariants.{Raising, Adapting, Plain}
 use Rattle.tree_automaton.specs.Sweep.{TreeSweep, IsTreeSweep, GridsServe, flag_in, tells_new}
-use Rattle.tree_automaton.specs.Promises.{EachSlot, Foresees, HasKey, IsViewIn, Keeps, KnowsStep, MayEnter, MayLeave, Meaning, SameCorner, StatusIn}
+use Rattle.tree_automaton.specs.Promises.{Foresees, HasKey, IsViewIn, Keeps, KnowsStep, MayEnter, MayLeave, Meaning, SameCorner, StatusIn}
 use Rattle.tree_automaton.specs.Story.{Story}
-use Rattle.tree_automaton.specs.Sweeps.{GridsAgree, IsEntered, IsFor}
+use Rattle.tree_automaton.specs.Sweeps.{GridsAgree, IsFor}
 use Rattle.tree_automaton.specs.Views.{CornerFits, CornerGiven, HasValues, IsMade, IsViewOf, KnowsField, VertexFits, ViewFits, ViewGiven}
 use Rattle.tree_automaton.specs.Visits.{CornerTaken, ViewTaken}
 use Rattle.tree_automaton.proofs.Decided.{corner_vertex, old_grid}
@@ -42,7 +41,7 @@ field_kept Adapting p c x y sides carried h = tt
 field_kept Plain p c x y sides carried h = (sides ∙ h.0, λ below. carried ∙ h.1 below)
 
 -- a place without a corner stays so
-beyond_kept : (k l : Corner) → SameCorner k l → k ≡ Beyond → l ≡ Beyond
+pub beyond_kept : (k l : Corner) → SameCorner k l → k ≡ Beyond → l ≡ Beyond
 beyond_kept Beyond Beyond same e = refl
 beyond_kept Beyond (Vertex t) same e = absurd same
 beyond_kept Beyond (Hanging l) same e = absurd same
@@ -323,15 +322,18 @@ module _ (m : Story) (c : CellKey) (plan : IsTreeSweep m.sweep) (cell : IsCell (
   own_vertex n below = corner_vertex (dim_of m.sweep.plan) c n cell below
 
   -- a view as it is given knows the step
-  pub knows : (old : Spacetree) → m.sweep.plan.old ≡ Some old → (grid : Spacetree) → m.sweep.plan.new ≡ grid → (v : CellView) → m.sweep.serves ≡ Adapting → v.key ≡ c → v.was ≡ flag_in m.sweep.plan.old c → ((n : ℕ) → n < corners (dim_of m.sweep.plan) → CornerGiven m.sweep (corner_of c n) (corner_at v n)) → KnowsStep old grid v
-  knows old is grid same v serves key was each = subst (λ g. KnowsStep old g v) same (record {
+  pub knows : (old : Spacetree) → m.sweep.plan.old ≡ Some old → (grid : Spacetree) → m.sweep.plan.new ≡ grid → (v : CellView) → m.sweep.serves ≡ Adapting → v.key ≡ c → v.was ≡ flag_in m.sweep.plan.old c → ((n : ℕ) → n < corners (dim_of m.sweep.plan) → CornerGiven m.sweep (corner_of c n) (corner_at v n)) → KnowsStep m.sweep.plan.depth old grid v
+  knows old is grid same v serves key was each = subst (λ g. KnowsStep m.sweep.plan.depth old g v) same (record {
+    grids = old_grid m.sweep old plan is;
     was = was ∙ (ap (λ o. flag_in o c) is ∙ ap (flag_in (Some old)) (sym key));
-    intents = λ n s below at stored. subst (λ d. SaysOfCells d s (IsOldSlot old m.sweep.plan.new true)) (sym (old_grid m.sweep old plan is).old_dim) (of_corner n s stored (subst (CornerGiven m.sweep (corner_of c n)) at (each n (subst (λ d. n < corners d) (old_grid m.sweep old plan is).old_dim below))));
+    shows = λ n below. subst (λ k. IsShown (dim_of m.sweep.plan) (Some old) m.sweep.plan.new true (corner_of k n) (corner_at v n)) (sym key) (shown (corner_of c n) (corner_at v n) (each n below));
   })
     where
-      of_corner : (n : ℕ) (s : VertexRecord) → IsStored old s.key → CornerGiven m.sweep (corner_of c n) (Vertex s) → SaysOfCells (dim_of m.sweep.plan) s (IsOldSlot old m.sweep.plan.new true)
-      of_corner n s stored (key, inl fits) = (both m.sweep plan old is serves s.key s fits.slots).1 stored
-      of_corner n s stored (key, inr made) = absurd (made.first (subst (λ o. IsStoredBefore o (corner_of c n)) (sym is) (subst (IsStored old) key stored)))
+      shown : (w : VertexKey) (k : Corner) → CornerGiven m.sweep w k → IsShown (dim_of m.sweep.plan) (Some old) m.sweep.plan.new true w k
+      shown w (Vertex s) (own, inl fits) = (own, subst (λ x. HasSlots (dim_of m.sweep.plan) (Some old) m.sweep.plan.new true x s) own (both m.sweep plan old is serves s.key s fits.slots))
+      shown w (Vertex s) (own, inr made) = (own, subst (λ x. HasSlots (dim_of m.sweep.plan) (Some old) m.sweep.plan.new true x s) own (both m.sweep plan old is serves s.key s (made_fits m.sweep plan old is serves w s own made).slots))
+      shown w (Hanging k) (own, before, after) = (own, subst (λ o. IsStoredBefore o w → ⊥) is before, after)
+      shown w Beyond fits = absurd fits
 
   enter_by : (serves : Serves) (grid : Spacetree) (v w : CellView) → m.sweep.serves ≡ serves → GridsServe serves m.sweep.plan → (serves ≡ Raising → m.sweep.plan.new ≡ grid) → (serves ≡ Adapting → m.sweep.plan.new ≡ grid) → IsViewOf m.sweep c v → ((n : ℕ) → n < corners (dim_of m.sweep.plan) → CornerGiven m.sweep (corner_of c n) (corner_at v n)) → Keeps v w → MayEnter serves grid v w → (n : ℕ) → n < corners (dim_of m.sweep.plan) → CornerFits m.sweep (corner_of c n) (corner_at w n)
   enter_by Plain grid v w serves one raising adapting view each keeps may n below = corner_kept m.sweep plan (corner_of c n) (corner_at v n) (corner_at w n) (keeps.corners_stay n) (each n below) (λ s t at to key len own fits. ⊎_elim
@@ -345,7 +347,7 @@ module _ (m : Story) (c : CellKey) (plan : IsTreeSweep m.sweep) (cell : IsCell (
       corner_kept m.sweep plan (corner_of c n) (corner_at v n) (corner_at w n) (keeps.corners_stay n) (each n below) (λ s t at to key len own fits.
       adapting_vertex m.sweep plan old.0 old.1 serves v.key s t (subst (IsVertex (dim_of m.sweep.plan)) (sym own) (own_vertex n below)) key len
       (λ k h. subst (λ (x : Spacetree). ((slot_at t k).intent ≡ (slot_at s k).intent) × ((adjacent_of x.dim s.key k ≡ Some v.key) ⊎ (((slot_at t k).status ≡ (slot_at s k).status) × ((slot_at t k).value ≡ (slot_at s k).value)))) (sym (adapting refl)) (may.0 n k s t at to h))
-      (λ k h. subst (λ (x : Spacetree). adjacent_of x.dim s.key k ≡ Some v.key → ((slot_at t k).status ≡ (slot_at s k).status) ⊎ (((slot_at t k).status ≡ Refined) ↔ (is_refined x v.key ≡ true))) (sym (adapting refl)) (may.1 old.0 (knows old.0 old.1 grid (adapting refl) v serves view.key view.was each) n k s t at to h))
+      (λ k h. subst (λ (x : Spacetree). adjacent_of x.dim s.key k ≡ Some v.key → ((slot_at t k).status ≡ (slot_at s k).status) ⊎ (((slot_at t k).status ≡ Refined) ↔ (is_refined x v.key ≡ true))) (sym (adapting refl)) (may.1 m.sweep.plan.depth old.0 (knows old.0 old.1 grid (adapting refl) v serves view.key view.was each) n k s t at to h))
       (fits_given s own fits))
 
   -- what a visitor does when a cell is entered makes its view fit
@@ -413,7 +415,7 @@ foreseen m c plan cell meaning v b for_sweep not taken foresees has = by m.sweep
     by : (s : Serves) → m.sweep.serves ≡ s → Foresees s meaning.new_grid v b → GridsAgree s m.sweep meaning → GridsServe s m.sweep.plan → Some b ≡ flag_in (Some m.sweep.plan.new) c
     by Plain e f g o = absurd (not e)
     by Raising e f g o = flag v.key taken.key (f ∙ ap (λ (t : Spacetree). is_refined t v.key) (sym g))
-    by Adapting e f g o = flag v.key taken.key (f o.0 (knows m c plan cell o.0 o.1 meaning.new_grid g v e taken.key taken.was (λ n below. given m c (corner_of c n) plan (corner_vertex (dim_of m.sweep.plan) c n cell below) (corner_at v n) (taken.each n below))) ∙ ap (λ (t : Spacetree). is_refined t v.key) (sym g))
+    by Adapting e f g o = flag v.key taken.key (f m.sweep.plan.depth o.0 (knows m c plan cell o.0 o.1 meaning.new_grid g v e taken.key taken.was (λ n below. given m c (corner_of c n) plan (corner_vertex (dim_of m.sweep.plan) c n cell below) (corner_at v n) (taken.each n below))) ∙ ap (λ (t : Spacetree). is_refined t v.key) (sym g))
 
 -- what a visitor may do by its own grid, it may do by the sweep's
 pub may_enter : (p : TreeSweep) (meaning : Meaning) (v w : CellView) → IsFor p meaning → MayEnter meaning.serves meaning.new_grid v w → MayEnter p.serves p.plan.new v w

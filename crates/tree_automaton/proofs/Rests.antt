@@ -1,9 +1,9 @@
 -- A store at rest: after a sweep, and before one.
-use Rattle.std.proofs.Common.{◌≡◌, ◌↔◌, ◌⊎◌, ℕ, zero, suc, ◌+◌, ◌<◌, ◌≤◌, Bool, true, false, List, [], ◌∷◌, ◌++◌, Option, Some, None, map, length, refl, ap, ap₂, sym, ◌∙◌, subst, arith, inl, inr, ⊎_elim}
+use Rattle.std.proofs.Common.{◌≡◌, ℕ, suc, ◌<◌, Bool, true, false, List, [], ◌∷◌, Option, Some, None, map, length, refl, ap, ap₂, sym, ◌∙◌, subst, arith, inl, inr}
 use Rattle.std.specs.Prelude.{◌&&◌, ◌||◌, not, nat_le, nat_lt, reverse, count_by, if◌then◌else◌, All}
 use Rattle.std.proofs.lemmas.List.{reverse-reverse, length-map}
 use Rattle.std.proofs.lemmas.List.{length-reverse}
-use Rattle.std.proofs.lemmas.Bool.{cases_Bool, false≢true}
+use Rattle.std.proofs.lemmas.Bool.{false≢true}
 use Rattle.stack_law.specs.Once.{IsIn}
 use Rattle.stack_law.specs.Stack.{AreDistinct, among}
 use Rattle.peano_keys.specs.declared.cell.CellKey.{CellKey}
@@ -12,26 +12,24 @@ use Rattle.peano_keys.specs.declared.dim.Dim.{Dim}
 use Rattle.peano_keys.specs.Dim.{corners}
 use Rattle.peano_keys.specs.Vertex.{IsVertex, adjacent_of}
 use Rattle.peano_records.specs.declared.slot.Status.TheVariants.{Outside}
-use Rattle.peano_keys.specs.Grid.{Spacetree, IsGrid, IsStored, has_cell, is_refined}
-use Rattle.peano_keys.specs.Field.{States}
+use Rattle.peano_keys.specs.Grid.{Spacetree, IsStored, is_refined}
 use Rattle.peano_curve.specs.declared.order.Direction.{Direction}
 use Rattle.peano_curve.specs.declared.order.Direction.TheVariants.{Forward, Backward}
 use Rattle.peano_curve.specs.declared.range.Range.{Range}
 use Rattle.peano_curve.specs.Order.{centre_of}
 use Rattle.peano_records.specs.declared.stored.Stored.{Stored}
-use Rattle.peano_records.specs.declared.slot.Intent.TheVariants.{Stay}
 use Rattle.peano_records.specs.declared.view.CellRecord.{CellRecord}
 use Rattle.peano_records.specs.declared.view.CellView.{CellView}
 use Rattle.peano_records.specs.Slots.{slot_at}
-use Rattle.peano_records.specs.AtRest.{IsAtRest, IsBeforeAdapting, HoldsCell, SaysOfCells}
+use Rattle.peano_records.specs.AtRest.{IsAtRest, IsBeforeAdapting}
 use Rattle.peano_records.proofs.Intents.{rest_intends_nothing}
-use Rattle.hanging_nodes.specs.Views.{AreOldAndNew, HasSlots}
+use Rattle.hanging_nodes.specs.Views.{HasSlots}
 use Rattle.hanging_nodes.proofs.Told.{rest_is_shown}
 use Rattle.vertex_stacks.specs.declared.kind.Kind.{Kind}
 use Rattle.vertex_stacks.specs.declared.tale.Tale.{Tale}
 use Rattle.vertex_stacks.specs.Notes.{Note}
 use Rattle.vertex_stacks.specs.Tales.{capped}
-use Rattle.sweep_visits.specs.Plan.{SweepPlan, IsSweepPlan, IsOldGrid, dim_of, is_cell_in, is_refined_in, is_stored_in}
+use Rattle.sweep_visits.specs.Plan.{SweepPlan, IsSweepPlan, IsOldGrid, dim_of, is_refined_in, is_stored_in}
 use Rattle.sweep_visits.specs.Runs.{turned_round}
 use Rattle.sweep_visits.specs.Moves.{same_cell, moves_of, put_by, taken_by}
 use Rattle.sweep_visits.proofs.Tests.{stored_tells}
@@ -41,16 +39,14 @@ use Rattle.sweep_streams.specs.Records.{read_by, written_by}
 use Rattle.sweep_streams.proofs.Streams.{next_sweep_reads_the_output}
 use Rattle.sweep_streams.proofs.Records.{next_sweep_reads_the_records, records_are_of_held_cells}
 use Rattle.sweep_streams.proofs.Pushes.{streams_are_stored}
-use Rattle.tree_automaton.specs.declared.kinds.Serves.{Serves}
 use Rattle.tree_automaton.specs.declared.kinds.Serves.TheVariants.{Raising, Adapting, Plain}
 use Rattle.tree_automaton.specs.TreeLists.{TreeLists}
 use Rattle.tree_automaton.specs.Sweep.{TreeSweep, IsTreeSweep, is_owned, is_owned_leaf, record_in, tells_new}
-use Rattle.tree_automaton.specs.Promises.{Meaning}
-use Rattle.tree_automaton.specs.Story.{Story, IsOfOutput, with_calls}
+use Rattle.tree_automaton.specs.Story.{IsOfOutput, with_calls}
 use Rattle.tree_automaton.specs.Moments.{flag_of}
 use Rattle.tree_automaton.specs.Views.{VertexFits, HasValues}
 use Rattle.tree_automaton.specs.Sweeps.{AllFit, SweepGives, begun, key_of}
-use Rattle.tree_automaton.specs.AtRest.{HasLists, StandsFor, StandsBefore, IsEmpty, CanSweep, StoreCanBeSwept, StoreCanBeAdapted, StoreCanBeRaised, FittingIsAtRest, plain_plan, raising_plan}
+use Rattle.tree_automaton.specs.AtRest.{HasLists, StoreCanBeSwept, StoreCanBeAdapted, StoreCanBeRaised, FittingIsAtRest, plain_plan, raising_plan}
 use Rattle.tree_automaton.proofs.Decided.{sweep_plan}
 use Rattle.tree_automaton.proofs.Lists.{map-reverse, count-reverse, matched_keys, map_in, no_items}
 

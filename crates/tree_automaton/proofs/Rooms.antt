@@ -1,22 +1,19 @@
 -- Room for what a sweep of one grid moves.
-use Rattle.std.proofs.Common.{◌≡◌, ◌⊎◌, ℕ, zero, suc, ◌+◌, ◌-◌, ◌<◌, ◌≤◌, Bool, true, false, List, [], ◌∷◌, ◌++◌, Option, Some, None, map, length, get_or, refl, ap, ap₂, sym, ◌∙◌, subst, arith, inl, inr, length-append}
-use Rattle.std.specs.Prelude.{ℤ, pos, ◌≤ℤ◌, ◌+ℤ◌, flat_map, if◌then◌else◌}
+use Rattle.std.proofs.Common.{◌≡◌, ℕ, suc, ◌+◌, ◌<◌, ◌≤◌, true, false, List, [], ◌∷◌, ◌++◌, Some, length, get_or, refl, ap, ap₂, sym, ◌∙◌, subst, arith, length-append}
+use Rattle.std.specs.Prelude.{pos, ◌≤ℤ◌, ◌+ℤ◌, flat_map, if◌then◌else◌}
 use Rattle.std.proofs.lemmas.Int.{ints}
 use Rattle.std.proofs.lemmas.List.{length-map}
 use Rattle.std.proofs.lemmas.Grind.{flat_map-append}
 use Rattle.peano_keys.specs.declared.cell.CellKey.{CellKey}
-use Rattle.peano_keys.specs.Grid.{Spacetree, has_cell, is_refined}
+use Rattle.peano_keys.specs.Grid.{has_cell, is_refined}
 use Rattle.peano_records.specs.declared.view.CellView.{CellView}
-use Rattle.peano_records.specs.declared.view.CellRecord.{CellRecord}
 use Rattle.peano_records.specs.declared.view.Corner.{Corner}
 use Rattle.peano_records.specs.declared.view.Corner.TheVariants.{Vertex, Hanging, Beyond}
-use Rattle.peano_records.specs.Tells.{corner_at}
 use Rattle.vertex_stacks.specs.declared.kind.Kind.{Kind}
-use Rattle.sweep_visits.specs.Plan.{SweepPlan, IsSweepPlan, is_visited}
-use Rattle.sweep_visits.specs.Visits.{Visit, enter, leave, visits_of}
+use Rattle.sweep_visits.specs.Plan.{is_visited}
+use Rattle.sweep_visits.specs.Visits.{Visit, leave}
 use Rattle.sweep_streams.specs.Records.{written_at, written_by}
-use Rattle.tree_automaton.specs.declared.kinds.Serves.{Serves}
-use Rattle.tree_automaton.specs.declared.kinds.Serves.TheVariants.{Raising, Adapting, Plain}
+use Rattle.tree_automaton.specs.declared.kinds.Serves.TheVariants.{Plain}
 use Rattle.tree_automaton.specs.TreeLists.{TreeLists, page_count, spare_cells}
 use Rattle.tree_automaton.specs.Sweep.{TreeSweep, IsTreeSweep, GridsServe, served_by}
 use Rattle.tree_automaton.specs.Promises.{Keeps, Meaning, SameCorner}
@@ -24,7 +21,7 @@ use Rattle.tree_automaton.specs.Story.{Story}
 use Rattle.tree_automaton.specs.Moments.{IsDuring, flag_of}
 use Rattle.tree_automaton.specs.Visits.{IsSameTree, vertex_part, vertices_in}
 use Rattle.tree_automaton.specs.Corners.{MovesVertices}
-use Rattle.tree_automaton.specs.Sweeps.{HasRoom, KeepsRoom, StaysNotLive}
+use Rattle.tree_automaton.specs.Sweeps.{HasRoom, KeepsRoom}
 use Rattle.tree_automaton.proofs.Entered.{plain_has}
 
 pub same_again : (s t u : TreeLists) → IsSameTree s t → IsSameTree t u → IsSameTree s u

@@ -1,11 +1,11 @@
 -- A store at rest as a sweep begins, and after it.
-use Rattle.std.proofs.Common.{◌≡◌, ◌↔◌, ℕ, zero, suc, ◌+◌, ◌-◌, ◌^◌, ◌<◌, ◌≤◌, Bool, true, false, List, [], ◌∷◌, ◌++◌, map, length, get_or, refl, ap, ap₂, sym, ◌∙◌, subst, arith, append-nil, append_assoc}
-use Rattle.std.specs.Prelude.{◌||◌, Option, Some, None, reverse, flat_map, count_by, pos, ◌≤ℤ◌}
+use Rattle.std.proofs.Common.{◌≡◌, ℕ, zero, suc, ◌-◌, ◌^◌, ◌<◌, ◌≤◌, Bool, true, false, List, [], ◌∷◌, ◌++◌, map, length, get_or, refl, ap, ap₂, sym, ◌∙◌, subst, arith, append-nil, append_assoc}
+use Rattle.std.specs.Prelude.{◌||◌, Some, None, reverse, pos, ◌≤ℤ◌}
 use Rattle.std.proofs.lemmas.List.{reverse-reverse, length-map, length-reverse}
 use Rattle.peano_keys.specs.declared.cell.CellKey.{CellKey}
 use Rattle.peano_keys.specs.declared.vertex.VertexKey.{VertexKey}
 use Rattle.peano_keys.specs.Cell.{root}
-use Rattle.peano_keys.specs.Grid.{has_cell, is_refined}
+use Rattle.peano_keys.specs.Grid.{is_refined}
 use Rattle.peano_records.specs.declared.stored.Stored.{Stored}
 use Rattle.peano_records.specs.declared.view.CellView.{CellView}
 use Rattle.vertex_stacks.specs.declared.kind.Kind.{Kind}
@@ -13,27 +13,26 @@ use Rattle.vertex_stacks.specs.Lists.{IsDrained, held, held_by, lane_at}
 use Rattle.vertex_stacks.specs.Notes.{Note}
 use Rattle.vertex_stacks.specs.Tales.{capped, with_note}
 use Rattle.stack_law.specs.Once.{IsIn}
-use Rattle.sweep_visits.specs.Plan.{SweepPlan, IsSweepPlan, dim_of, is_cell_in, is_stored_in}
-use Rattle.sweep_visits.specs.Visits.{Visit, visits_of}
+use Rattle.sweep_visits.specs.Plan.{is_cell_in, is_stored_in}
+use Rattle.sweep_visits.specs.Visits.{visits_of}
 use Rattle.sweep_visits.specs.Runs.{turned_round}
-use Rattle.sweep_visits.specs.Moves.{Passing, same_cell, same_vertex, moves_of, taken_by, put_by}
-use Rattle.sweep_visits.specs.Moments.{passings_on, moves_by}
+use Rattle.sweep_visits.specs.Moves.{same_cell, same_vertex, moves_of, taken_by, put_by}
 use Rattle.sweep_visits.proofs.Same.{cells_decided}
 use Rattle.sweep_streams.specs.Counts.{pushed_by}
-use Rattle.sweep_streams.specs.Records.{read_by, written_by, written_at, IsHeldCell, turned_plan}
+use Rattle.sweep_streams.specs.Records.{read_by, written_by}
 use Rattle.sweep_streams.proofs.Records.{records_are_of_held_cells}
 use Rattle.sweep_streams.proofs.Lists.{same_length}
 use Rattle.sweep_streams.proofs.Pushes.{streams_are_stored}
 use Rattle.sweep_visits.proofs.Same.{vertices_decided}
 use Rattle.tree_automaton.specs.declared.kinds.Serves.TheVariants.{Plain}
 use Rattle.tree_automaton.specs.TreeLists.{TreeLists, IsRoomy, page_count, room_in}
-use Rattle.tree_automaton.specs.Sweep.{TreeSweep, IsTreeSweep, GridsServe, cell_visits, is_owned_leaf, record_in, served_by}
+use Rattle.tree_automaton.specs.Sweep.{TreeSweep, IsTreeSweep, GridsServe, cell_visits, record_in, served_by}
 use Rattle.tree_automaton.specs.Promises.{Meaning}
 use Rattle.tree_automaton.specs.Story.{Story, IsOfInput, IsOfOutput, IsOnLane, Matched, with_calls}
-use Rattle.tree_automaton.specs.Moments.{HoldsVertices, HoldsCells, IsDuring, IsStoreOf, flag_of, records_of}
+use Rattle.tree_automaton.specs.Moments.{IsDuring, flag_of}
 use Rattle.tree_automaton.specs.Sweeps.{AllFit, IsAtRestFor, HasRoom, SweepAsks, SweepGives, VisitsGive, WalkAsks, begun, key_of, no_lanes}
 use Rattle.tree_automaton.proofs.Decided.{sweep_plan}
-use Rattle.tree_automaton.proofs.Passings.{all_arrived}
+use Rattle.sweep_visits.proofs.Moments.{all_arrived}
 use Rattle.tree_automaton.proofs.Visited.{visits_root}
 use Rattle.tree_automaton.proofs.Chains.{during_next, during_joined}
 
@@ -146,6 +145,7 @@ module _ (p : TreeSweep) (meaning : Meaning) (kind : Kind) (s : TreeLists) (asks
       of = record { dim = ap (λ z. z.lanes.dim) ready ∙ asks.rest.of.dim; depth = ap (λ z. z.depth) ready ∙ asks.rest.of.depth; range = ap (λ z. z.range) ready ∙ asks.rest.of.range; dir = ap (λ z. z.dir) ready ∙ asks.rest.of.dir; tree = ap (λ z. z.tree) ready ∙ asks.rest.of.tree };
       above = refl;
     };
+    above = tt;
     for_sweep = asks.for_sweep;
     cell = or_true (is_cell_in p.plan.old root);
     during = during_next start [] _ _ u all_visits (subst (IsDuring start [] (visits_of p.plan)) (sym ready) first_moment);

@@ -1,8 +1,7 @@
 -- Corners taken one by one.
-use Rattle.std.proofs.Common.{◌≡◌, ◌⊎◌, ℕ, zero, suc, ◌+◌, ◌-◌, ◌<◌, ◌≤◌, Bool, true, false, List, [], ◌∷◌, ◌++◌, Option, Some, None, length, get_or, set, refl, ap, sym, ◌∙◌, subst, arith, ⊎_elim, append_assoc}
-use Rattle.std.specs.Prelude.{◌||◌, pos, ◌≤ℤ◌, ◌+ℤ◌}
+use Rattle.std.proofs.Common.{◌≡◌, ℕ, zero, suc, ◌+◌, ◌<◌, ◌≤◌, true, List, [], ◌∷◌, ◌++◌, Option, Some, None, length, get_or, set, drop, refl, ap, sym, ◌∙◌, subst, arith, ⊎_elim, append_assoc}
 use Rattle.std.proofs.lemmas.Bool.{cases_eq, false≢true}
-use Rattle.std.proofs.lemmas.List.{get_or-set_same, get_or-set_other}
+use Rattle.std.proofs.lemmas.List.{get_or-set_same, get_or-set_other, drop-set}
 use Rattle.peano_keys.specs.declared.cell.CellKey.{CellKey}
 use Rattle.peano_keys.specs.declared.vertex.VertexKey.{VertexKey}
 use Rattle.peano_keys.specs.Dim.{corners}
@@ -14,16 +13,15 @@ use Rattle.peano_records.specs.declared.view.Corner.TheVariants.{Vertex, Hanging
 use Rattle.peano_records.specs.Slots.{fresh}
 use Rattle.vertex_stacks.specs.Lists.{SweepLists, lane_at}
 use Rattle.vertex_stacks.specs.Tales.{capped}
-use Rattle.sweep_visits.specs.Plan.{dim_of, is_kept, is_stored_in, is_stored}
-use Rattle.sweep_visits.specs.Runs.{previous_in_run}
-use Rattle.sweep_visits.specs.Moves.{Move, take, pop, passing, corner_in}
+use Rattle.sweep_visits.specs.Plan.{is_stored_in, is_stored}
+use Rattle.sweep_visits.specs.Moves.{Move, pop, passing, corner_in}
 use Rattle.sweep_visits.specs.Moments.{arrivals_below}
 use Rattle.tree_automaton.specs.declared.kinds.Serves.TheVariants.{Plain}
 use Rattle.tree_automaton.specs.declared.decide.Course.{Course}
 use Rattle.tree_automaton.specs.declared.decide.Entry.TheVariants as entry
 use Rattle.tree_automaton.specs.TreeLists.{TreeLists, page_count}
 use Rattle.tree_automaton.specs.Sweep.{GridsServe}
-use Rattle.tree_automaton.specs.Story.{Story, IsOnLane, IsOfInput}
+use Rattle.tree_automaton.specs.Story.{Story}
 use Rattle.tree_automaton.specs.Moments.{HoldsVertices}
 use Rattle.tree_automaton.specs.Decisions.{Decides, EntryIs}
 use Rattle.tree_automaton.specs.Visits.{CornerTaken, ComesFrom, vertex_part, vertices_in}
@@ -69,7 +67,7 @@ module _ (m : Story) (made more : List Move) (course : Course) (parent : Option 
   pub input_there : EntryIs m.sweep.plan c w entry.Input → s.lanes.input ≡ [] → ⊥
   input_there is none = take_there m (sweep_plan m.sweep asks.decides.sweep) made more s.lanes w (comes_next m s.lanes made more _ _ (comes_by_input m.sweep.plan c w is.0 is.1 is.2) asks.holds) none
 
-  pub from_lane : (lane : ℕ) (t : TreeLists) (v : Stored) → EntryIs m.sweep.plan c w (entry.Lane lane) → lane_at s.lanes lane ≡ lane_at t.lanes lane ++ v ∷ [] → t ≡ record s { lanes = record s.lanes { lanes = set s.lanes.lanes lane (lane_at t.lanes lane); spare = t.lanes.spare } } → CornerGives m made more c n t (Vertex v)
+  from_lane : (lane : ℕ) (t : TreeLists) (v : Stored) → EntryIs m.sweep.plan c w (entry.Lane lane) → lane_at s.lanes lane ≡ lane_at t.lanes lane ++ v ∷ [] → t ≡ record s { lanes = record s.lanes { lanes = set s.lanes.lanes lane (lane_at t.lanes lane); spare = t.lanes.spare } } → CornerGives m made more c n t (Vertex v)
   from_lane lane t v is last others =
       let done = popped m (sweep_plan m.sweep asks.decides.sweep) made more s.lanes lane (passing w c) t.lanes v (comes_next m s.lanes made more _ _ (by_lane lane is) asks.holds) last (ap (λ x. x.lanes) others) in
       record {
@@ -77,7 +75,7 @@ module _ (m : Story) (made more : List Move) (course : Course) (parent : Option 
         corner_is = (is.0, subst (λ o. ComesFrom m c w o (is_stored_in m.sweep.plan.old w) v) (sym is.1.1) done.1);
       }
 
-  pub from_input : (t : TreeLists) (v : Stored) → EntryIs m.sweep.plan c w entry.Input → s.lanes.input ≡ v ∷ t.lanes.input → t ≡ record s { lanes = record s.lanes { input = t.lanes.input; spare = t.lanes.spare; taken = capped (s.lanes.taken + 1) } } → CornerGives m made more c n t (Vertex v)
+  from_input : (t : TreeLists) (v : Stored) → EntryIs m.sweep.plan c w entry.Input → s.lanes.input ≡ v ∷ t.lanes.input → t ≡ record s { lanes = record s.lanes { input = t.lanes.input; spare = t.lanes.spare; taken = capped (s.lanes.taken + 1) } } → CornerGives m made more c n t (Vertex v)
   from_input t v is first others =
       let move = comes_by_input m.sweep.plan c w is.0 is.1 is.2 in
       let done = taken m (sweep_plan m.sweep asks.decides.sweep) made more s.lanes w t.lanes v (comes_next m s.lanes made more _ _ move asks.holds) first (ap (λ x. x.lanes) others) in
@@ -85,6 +83,13 @@ module _ (m : Story) (made more : List Move) (course : Course) (parent : Option 
         holds = was_made m t.lanes made more _ _ (sym move) done.0;
         corner_is = (is.0, subst (λ o. ComesFrom m c w o (is_stored_in m.sweep.plan.old w) v) (sym is.1) (subst (λ b. ComesFrom m c w None b v) (sym is.2) done.1));
       }
+
+  -- the same of the corner to which the vertex came
+  pub lane_gives : (lane : ℕ) (t : TreeLists) (v : Stored) (corner : Corner) → corner ≡ Vertex v → EntryIs m.sweep.plan c w (entry.Lane lane) → lane_at s.lanes lane ≡ lane_at t.lanes lane ++ v ∷ [] → t ≡ record s { lanes = record s.lanes { lanes = set s.lanes.lanes lane (lane_at t.lanes lane); spare = t.lanes.spare } } → CornerGives m made more c n t corner
+  lane_gives lane t v corner at is last others = subst (CornerGives m made more c n t) (sym at) (from_lane lane t v is last others)
+
+  pub input_gives : (t : TreeLists) (v : Stored) (corner : Corner) → corner ≡ Vertex v → EntryIs m.sweep.plan c w entry.Input → s.lanes.input ≡ v ∷ t.lanes.input → t ≡ record s { lanes = record s.lanes { input = t.lanes.input; spare = t.lanes.spare; taken = capped (s.lanes.taken + 1) } } → CornerGives m made more c n t corner
+  input_gives t v corner at is first others = subst (CornerGives m made more c n t) (sym at) (from_input t v is first others)
 
   pub made_new : (v : Stored) (k : VertexKey) → EntryIs m.sweep.plan c w entry.Made → k ≡ w → v ≡ fresh course.dim k → CornerGives m made more c n s (Vertex v)
   made_new v k is key new = record {
@@ -133,26 +138,24 @@ module _ (m : Story) (more : List Move) (course : Course) (c : CellKey) (k : ℕ
         (cases_eq n k);
   }
 
-abbrev pub beyonds : List Corner
-beyonds = Beyond ∷ Beyond ∷ Beyond ∷ Beyond ∷ Beyond ∷ Beyond ∷ Beyond ∷ Beyond ∷ []
+-- how many vertices there are among the corners from a number on
+abbrev pub vertices_from : ℕ → List Corner → ℕ
+vertices_from n cs = vertices_in (drop n cs)
 
-pub all_beyond : (n : ℕ) → get_or beyonds n Beyond ≡ Beyond
-all_beyond zero = refl
-all_beyond (suc zero) = refl
-all_beyond (suc (suc zero)) = refl
-all_beyond (suc (suc (suc zero))) = refl
-all_beyond (suc (suc (suc (suc zero)))) = refl
-all_beyond (suc (suc (suc (suc (suc zero))))) = refl
-all_beyond (suc (suc (suc (suc (suc (suc zero)))))) = refl
-all_beyond (suc (suc (suc (suc (suc (suc (suc zero))))))) = refl
-all_beyond (suc (suc (suc (suc (suc (suc (suc (suc n)))))))) = refl
+-- places beyond the corners have none
+pub none_beyond : (n : ℕ) (cs : List Corner) → AreBeyond n cs → vertices_from n cs ≡ 0
+none_beyond zero [] h = refl
+none_beyond (suc n) [] h = refl
+none_beyond zero (x ∷ cs) h =
+    let first : vertex_part x ≡ 0 = ap vertex_part (h 0 (omega arith)) in
+    let rest : vertices_in cs ≡ 0 = none_beyond 0 cs (λ k least. h (suc k) (omega arith)) in
+    omega (arith, first, rest)
+none_beyond (suc n) (x ∷ cs) h = none_beyond n cs (λ k least. h (suc k) (omega (arith, least)))
 
--- places that no corner was taken to
-abbrev pub AreEmpty : ℕ → ℕ → List Corner → Type 0
-AreEmpty least count cs = (n : ℕ) → (n < least) ⊎ (count ≤ n) → get_or cs n Beyond ≡ Beyond
+-- one corner more
+pub one_counted : (cs : List Corner) (k : ℕ) (corner : Corner) → k < length cs → vertices_from k (set cs k corner) ≡ vertex_part corner + vertices_from (k + 1) cs
+one_counted cs k corner inside = ap vertices_in (drop-set cs k corner inside)
 
--- a corner in an empty place counts where it is a vertex
-pub one_counted : (cs : List Corner) (k : ℕ) (corner : Corner) → k < length cs → get_or cs k Beyond ≡ Beyond → vertices_in (set cs k corner) ≡ vertices_in cs + vertex_part corner
-one_counted [] k corner h e = absurd (omega arith)
-one_counted (x ∷ cs) zero corner h e = let z : vertex_part x ≡ 0 = ap vertex_part e in omega (arith, z)
-one_counted (x ∷ cs) (suc k) corner h e = let r : vertices_in (set cs k corner) ≡ vertices_in cs + vertex_part corner = one_counted cs k corner (omega arith) e in omega (arith, r)
+-- places beyond the corners stay so
+pub beyond_stays : (count : ℕ) (cs : List Corner) (k : ℕ) (corner : Corner) → k < count → AreBeyond count cs → AreBeyond count (set cs k corner)
+beyond_stays count cs k corner below h = λ n least. get_or-set_other cs k n corner Beyond (λ e. omega (arith, below, least, e)) ∙ h n least

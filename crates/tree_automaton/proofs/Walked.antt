@@ -1,9 +1,8 @@
 -- The walk of a cell: its enter, what is below it, and its leave.
-use Rattle.std.proofs.Common.{◌≡◌, ◌↔◌, ℕ, zero, suc, ◌+◌, ◌-◌, ◌<◌, ◌≤◌, Bool, true, false, List, [], ◌∷◌, ◌++◌, Option, Some, None, refl, ap, ap₂, sym, ◌∙◌, subst, arith, ⊎_elim, append-nil, append_assoc}
-use Rattle.std.specs.Prelude.{if◌then◌else◌, ◌||◌, ◌&&◌}
-use Rattle.peano_keys.specs.declared.dim.Dim.{Dim}
+use Rattle.std.proofs.Common.{◌≡◌, ◌↔◌, ℕ, ◌<◌, Bool, true, false, List, [], ◌∷◌, ◌++◌, Option, Some, None, refl, ap, sym, ◌∙◌, subst, arith, append_assoc}
+use Rattle.std.specs.Prelude.{◌||◌}
 use Rattle.peano_keys.specs.declared.cell.CellKey.{CellKey}
-use Rattle.peano_keys.specs.Cell.{IsCell, parent_of}
+use Rattle.peano_keys.specs.Cell.{IsCell}
 use Rattle.peano_keys.specs.Dim.{corners}
 use Rattle.peano_keys.specs.Vertex.{corner_of}
 use Rattle.peano_records.specs.Tells.{corner_at}
@@ -13,26 +12,26 @@ use Rattle.peano_curve.specs.declared.range.Range.{Range}
 use Rattle.peano_curve.specs.Order.{interval_of}
 use Rattle.peano_curve.specs.Run.{Meets, HoldsCell}
 use Rattle.vertex_stacks.specs.declared.kind.Kind.{Kind}
-use Rattle.sweep_visits.specs.Plan.{SweepPlan, IsSweepPlan, dim_of, is_cell_in, is_held, is_visited}
+use Rattle.sweep_visits.specs.Plan.{dim_of, is_cell_in, is_held, is_visited}
 use Rattle.sweep_visits.specs.Visits.{Visit, enter, leave}
 use Rattle.sweep_visits.proofs.Tests.{held_tells, held_told}
 use Rattle.tree_automaton.specs.declared.decide.Course.{Course}
 use Rattle.tree_automaton.specs.TreeLists.{TreeLists}
-use Rattle.tree_automaton.specs.Sweep.{TreeSweep, IsTreeSweep, cell_visits, flag_in, served_by}
+use Rattle.tree_automaton.specs.Sweep.{TreeSweep, cell_visits, flag_in, served_by}
 use Rattle.tree_automaton.specs.Promises.{Keeps, MayEnter, MayLeave, Meaning}
 use Rattle.tree_automaton.specs.Story.{Call, Story, with_calls}
 use Rattle.tree_automaton.specs.Moments.{IsDuring, IsStoreOf}
 use Rattle.tree_automaton.specs.Decisions.{Decides, IsCourse}
-use Rattle.tree_automaton.specs.Views.{ParentFits, ViewFits}
-use Rattle.tree_automaton.specs.Visits.{CornerTaken, IsBefore, EnterAsks, EnterGives, LeaveAsks, LeaveGives, ViewTaken, IsSameTree, left_with}
-use Rattle.tree_automaton.specs.Sweeps.{BelowAsks, IsEntered, IsFor, IsLeft, VisitsGive, WalkAsks, visits_below}
+use Rattle.tree_automaton.specs.Views.{CarriesFrom, ParentFits, ViewFits, value_at_home}
+use Rattle.tree_automaton.specs.Visits.{CornerTaken, EnterAsks, EnterGives, LeaveAsks, LeaveGives, ViewTaken, IsSameTree, left_with}
+use Rattle.tree_automaton.specs.Sweeps.{BelowAsks, CarriesOfParent, ParentWasEntered, WasEntered, IsEntered, IsFor, VisitsGive, WalkAsks, visits_below}
 use Rattle.tree_automaton.proofs.Stored.{and_both, told_as}
 use Rattle.tree_automaton.proofs.Ways.{of_plan, of_course}
 use Rattle.tree_automaton.proofs.Decided.{sweep_plan}
 use Rattle.tree_automaton.proofs.Entered.{decides}
 use Rattle.tree_automaton.proofs.Promised.{will_set, enter_fits, leave_fits, may_enter, may_leave}
 use Rattle.tree_automaton.proofs.Visited.{visits_none, visits_some}
-use Rattle.tree_automaton.proofs.Chains.{entered_during, entered_with, during_next, during_joined, gives_call, gives_join, gives_none}
+use Rattle.tree_automaton.proofs.Chains.{entered_during, entered_with, during_next, gives_call, gives_join, gives_none}
 
 -- the course of a store is that of the sweep
 pub course_is : (p : TreeSweep) (s : TreeLists) (kind : Kind) (course : Course) → IsStoreOf p s → served_by kind ≡ p.serves → course ≡ record { dim = s.lanes.dim; depth = s.depth; range = s.range; dir = s.dir; serves = served_by kind } → IsCourse p course
@@ -79,7 +78,7 @@ module _ (m : Story) (made more : List Visit) (meaning : Meaning) (parent : Opti
     pub enter_asks : EnterAsks m made after_enter parent c kind s
     enter_asks = record { before = asks.before; during = during_next m made _ _ s all_next asks.during }
 
-    module _ (t : TreeLists) (v w : CellView) (gives : EnterGives m made after_enter c t v) (same : IsSameTree s t) (others : w ≡ record v { will = w.will }) (will : w.will ≡ flag_in (Some m.sweep.plan.new) c) (x : CellView) (keeps : Keeps w x) (may : MayEnter meaning.serves meaning.new_grid w x) where
+    module _ (t : TreeLists) (v w : CellView) (gives : EnterGives m made after_enter c t v) (from : CarriesFrom s.lanes.dim parent v.carried) (same : IsSameTree s t) (others : w ≡ record v { will = w.will }) (will : w.will ≡ flag_in (Some m.sweep.plan.new) c) (x : CellView) (keeps : Keeps w x) (may : MayEnter meaning.serves meaning.new_grid w x) where
       of_entered : IsStoreOf m.sweep t
       of_entered = still_of m.sweep s t asks.before.of same
 
@@ -89,10 +88,16 @@ module _ (m : Story) (made more : List Visit) (meaning : Meaning) (parent : Opti
       pub cell_after : IsCell t.lanes.dim x.key
       cell_after = subst (λ k. IsCell t.lanes.dim k) (sym key_after) (subst (λ d. IsCell d c) (sym same.dim) cell)
 
+      -- what the cell carries is of its parent's view, as the visitor left that
+      carried_is : (o : Option CellView) → ParentFits m.sweep c o → ParentWasEntered m c o → CarriesFrom s.lanes.dim o v.carried → CarriesOfParent m c w.carried
+      carried_is None fits above from below = absurd (omega (arith, fits, below))
+      carried_is (Some view) fits above from below = (view, above, ap (λ y. y.carried) others ∙ (from ∙ ap (λ d. value_at_home d view) asks.before.of.dim))
+
       given_is : IsEntered m c w x
       given_is = record {
         view = will_set m c asks.before.sweep own_cell v w gives.view others will;
         taken = subst (λ y. (n : ℕ) → n < corners (dim_of m.sweep.plan) → CornerTaken m c (corner_of c n) (corner_at y n)) (sym others) gives.view.each;
+        carries = carried_is parent asks.before.above asks.above from;
         keeps = keeps;
         may = may_enter m.sweep meaning w x asks.for_sweep may;
       }
@@ -114,6 +119,7 @@ module _ (m : Story) (made more : List Visit) (meaning : Meaning) (parent : Opti
         of = of_entered;
         for_sweep = subst (IsFor m.sweep) (sym same') asks.for_sweep;
         view_is = subst (λ k. ViewFits m.sweep k x) (sym key_after) fits;
+        entered = subst (λ k. WasEntered first_story k x) (sym key_after) (record { call = first_call; among = record { before = m.calls; after = []; place = refl }; visit = refl; same = refl });
         during = subst (λ k. IsDuring first_story made_first (visits_below m.sweep.plan k ++ leave c ∷ more) t) (sym key_after) (entered_during m c w x made_first after_enter t gives.during);
       }
 
@@ -147,10 +153,7 @@ module _ (m : Story) (made more : List Visit) (meaning : Meaning) (parent : Opti
             let start : VisitsGive entered left m made (enter c ∷ []) after_enter t x0 x1 = gives_call entered left m made after_enter first_call t x0 x1 (x1, called, refl) given_is of_entered (entered_during m c w x made_first after_enter t gives.during) in
             let end : VisitsGive entered left last_story made_last (leave c ∷ []) more e x2 x3 = gives_call entered left last_story made_last more (left_with c x y) e x2 x3 (x3, call, refl) (record {
               view = fits;
-              call = first_call;
-              among = record { before = m.calls; after = below.calls; place = append_assoc m.calls (first_call ∷ []) below.calls };
-              visit = refl;
-              same = refl;
+              entered = record { call = first_call; among = record { before = m.calls; after = below.calls; place = append_assoc m.calls (first_call ∷ []) below.calls }; visit = refl; same = refl };
               keeps = keeps';
               may = may_leave m.sweep meaning x y asks.for_sweep may';
             }) (still_of m.sweep u e below.of same') (own x) in

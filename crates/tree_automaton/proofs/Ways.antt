@@ -1,10 +1,9 @@
 -- Where corners come from and go, from what the run of the vertex says.
-use Rattle.std.proofs.Common.{◌≡◌, ℕ, ◌<◌, ◌≤◌, ◌&&◌, Bool, true, false, Option, Some, None, refl, ap, sym, ◌∙◌, subst}
+use Rattle.std.proofs.Common.{◌≡◌, ℕ, Option, Some, None, ap, sym, ◌∙◌, subst}
 use Rattle.std.specs.Prelude.{◌||◌}
 use Rattle.peano_keys.specs.declared.cell.CellKey.{CellKey}
 use Rattle.peano_keys.specs.declared.vertex.VertexKey.{VertexKey}
 use Rattle.peano_keys.specs.declared.dim.Dim.{Dim}
-use Rattle.peano_keys.specs.Dim.{corners}
 use Rattle.peano_keys.specs.Cell.{IsCell}
 use Rattle.peano_keys.specs.Vertex.{IsVertex, Touches, corner_of}
 use Rattle.peano_keys.specs.Grid.{has_cell}
@@ -12,7 +11,7 @@ use Rattle.peano_records.specs.declared.view.CellView.{CellView}
 use Rattle.peano_curve.specs.declared.order.Direction.{Direction}
 use Rattle.peano_curve.specs.declared.range.Range.{Range}
 use Rattle.peano_curve.specs.Run.{InRun, HoldsCell, Follows, IsFirst, IsLast, DifferOn, lane_from}
-use Rattle.sweep_visits.specs.Plan.{dim_of, is_cell_in, is_held, is_kept}
+use Rattle.sweep_visits.specs.Plan.{dim_of, is_cell_in, is_held}
 use Rattle.sweep_visits.specs.Runs.{turned_round, next_in_run, previous_in_run, lane_between}
 use Rattle.sweep_visits.proofs.Tests.{held_tells}
 use Rattle.sweep_visits.proofs.Next.{next_told, none_told, turned_follows}

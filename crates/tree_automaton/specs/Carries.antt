@@ -1,5 +1,5 @@
 -- From the chain of a visitor's calls to what they leave together, so that no visitor's own proof goes over visits.
-use Rattle.std.specs.Prelude.{◌≡◌, List, [], ◌∷◌, ◌++◌, flat_map}
+use Rattle.std.specs.Prelude.{◌≡◌, List, ◌++◌, flat_map}
 use Rattle.peano_records.specs.declared.view.CellView.{CellView}
 use Rattle.tree_automaton.specs.Story.{Call, Story, with_calls}
 use Rattle.tree_automaton.specs.Sweeps.{AllCallsFit, CallFits, Chain, Stands}

@@ -1,5 +1,5 @@
 -- What taking and giving corners asks of a store, and what it gives.
-use Rattle.std.specs.Prelude.{◌≡◌, ℕ, ◌<◌, ◌≤◌, ◌-◌, ◌&&◌, not, None, Some, Bool, true, false, List, [], ◌∷◌, ◌++◌, Option, slice_index_or}
+use Rattle.std.specs.Prelude.{◌≡◌, ℕ, ◌<◌, ◌≤◌, ◌&&◌, not, None, Some, Bool, true, false, List, [], ◌∷◌, ◌++◌, Option, slice_index_or}
 use Rattle.peano_keys.specs.declared.cell.CellKey.{CellKey}
 use Rattle.peano_keys.specs.Dim.{corners}
 use Rattle.peano_keys.specs.Vertex.{corner_of}

@@ -6,7 +6,7 @@ use Rattle.peano_keys.specs.declared.dim.Dim.{Dim}
 use Rattle.peano_keys.specs.Dim.{corners}
 use Rattle.peano_keys.specs.Cell.{IsCell}
 use Rattle.peano_keys.specs.Vertex.{adjacent_of, corner_of}
-use Rattle.peano_keys.specs.Grid.{Spacetree, IsStored, is_refined}
+use Rattle.peano_keys.specs.Grid.{Spacetree, is_refined}
 use Rattle.peano_records.specs.declared.slot.Slot.{Slot}
 use Rattle.peano_records.specs.declared.slot.Status.TheVariants.{Outside, Leaf, Refined}
 use Rattle.peano_records.specs.declared.slot.Intent.TheVariants.{Split, Merge}
@@ -14,9 +14,9 @@ use Rattle.peano_records.specs.declared.view.CellView.{CellView}
 use Rattle.peano_records.specs.declared.view.Corner.{Corner}
 use Rattle.peano_records.specs.declared.view.Corner.TheVariants.{Vertex, Hanging, Beyond}
 use Rattle.peano_records.specs.Slots.{VertexRecord, slot_at}
-use Rattle.peano_records.specs.AtRest.{SaysOfCells, status_of}
+use Rattle.peano_records.specs.AtRest.{status_of}
 use Rattle.peano_records.specs.Tells.{corner_at}
-use Rattle.hanging_nodes.specs.Views.{IsOldSlot}
+use Rattle.hanging_nodes.specs.Views.{AreOldAndNew, Shows}
 use Rattle.tree_automaton.specs.declared.kinds.Serves.{Serves}
 use Rattle.tree_automaton.specs.declared.kinds.Serves.TheVariants.{Raising, Adapting, Plain}
 use Rattle.tree_automaton.specs.Sweep.{flag_in}
@@ -68,15 +68,16 @@ abbrev pub StatusIn : Spacetree → Option CellKey → Slot → Type 0
 StatusIn t None s = s.status ≡ Outside
 StatusIn t (Some q) s = s.status ≡ status_of (is_refined t q)
 
--- a view knows an old grid, and the intents by which the new one is made
-pub record KnowsStep (old new : Spacetree) (v : CellView) : Type 0 where
+-- a view knows the old grid, from which the new one is made, and shows both
+pub record KnowsStep (depth : ℕ) (old new : Spacetree) (v : CellView) : Type 0 where
+  pub grids : AreOldAndNew depth new.dim old new
   pub was : v.was ≡ flag_in (Some old) v.key
-  pub intents : (n : ℕ) (s : VertexRecord) → n < corners old.dim → corner_at v n ≡ Vertex s → IsStored old s.key → SaysOfCells old.dim s (IsOldSlot old new true)
+  pub shows : Shows new.dim (Some old) new true v
 
 -- what a visitor may do to the slots of a view when a cell is entered
 abbrev pub MayEnter : Serves → Spacetree → CellView → CellView → Type 0
 MayEnter Raising grid v w = EachSlot (λ key k s t. (t.intent ≡ s.intent) × (k < corners grid.dim → StatusIn grid (adjacent_of grid.dim key k) t)) v w
-MayEnter Adapting grid v w = EachSlot (λ key k s t. (t.intent ≡ s.intent) × (adjacent_of grid.dim key k ≡ Some v.key ⊎ ((t.status ≡ s.status) × (t.value ≡ s.value)))) v w × ((old : Spacetree) → KnowsStep old grid v → EachSlot (λ key k s t. adjacent_of grid.dim key k ≡ Some v.key → (t.status ≡ s.status) ⊎ ((t.status ≡ Refined) ↔ (is_refined grid v.key ≡ true))) v w)
+MayEnter Adapting grid v w = EachSlot (λ key k s t. (t.intent ≡ s.intent) × (adjacent_of grid.dim key k ≡ Some v.key ⊎ ((t.status ≡ s.status) × (t.value ≡ s.value)))) v w × ((depth : ℕ) (old : Spacetree) → KnowsStep depth old grid v → EachSlot (λ key k s t. adjacent_of grid.dim key k ≡ Some v.key → (t.status ≡ s.status) ⊎ ((t.status ≡ Refined) ↔ (is_refined grid v.key ≡ true))) v w)
 MayEnter Plain grid v w = EachSlot (λ key k s t. (t.status ≡ s.status) × (t.value ≡ s.value) × (t.intent ≡ Split → (s.intent ≡ Split) ⊎ (s.status ≡ Leaf)) × (t.intent ≡ Merge → (s.intent ≡ Merge) ⊎ (s.status ≡ Refined))) v w
 
 abbrev pub MayLeave : Serves → Spacetree → CellView → CellView → Type 0
@@ -87,5 +88,5 @@ MayLeave Plain grid v w = MayEnter Plain grid v w
 -- what a visitor says of the new grid
 abbrev pub Foresees : Serves → Spacetree → CellView → Bool → Type 0
 Foresees Raising grid v b = b ≡ is_refined grid v.key
-Foresees Adapting grid v b = (old : Spacetree) → KnowsStep old grid v → b ≡ is_refined grid v.key
+Foresees Adapting grid v b = (depth : ℕ) (old : Spacetree) → KnowsStep depth old grid v → b ≡ is_refined grid v.key
 Foresees Plain grid v b = Unit {0}

@@ -1,7 +1,8 @@
 -- What a sweep asks of a store, and what it gives.
-use Rattle.std.specs.Prelude.{◌≡◌, ℕ, ◌<◌, ◌≤◌, ◌-◌, ◌||◌, if◌then◌else◌, true, false, List, [], ◌∷◌, ◌++◌, map, reverse, length, flat_map, count_by, Option, pos, ◌≤ℤ◌}
+use Rattle.std.specs.Prelude.{◌≡◌, ℕ, ◌<◌, ◌≤◌, ◌-◌, ◌||◌, if◌then◌else◌, true, false, List, [], ◌∷◌, ◌++◌, map, reverse, length, count_by, Option, Some, None, pos, ◌≤ℤ◌}
 use Rattle.peano_keys.specs.declared.cell.CellKey.{CellKey}
 use Rattle.peano_keys.specs.declared.vertex.VertexKey.{VertexKey}
+use Rattle.peano_keys.specs.declared.state.State.{State}
 use Rattle.peano_keys.specs.Dim.{corners}
 use Rattle.peano_keys.specs.Vertex.{corner_of}
 use Rattle.peano_keys.specs.Grid.{has_cell, is_refined}
@@ -16,7 +17,6 @@ use Rattle.vertex_stacks.specs.Notes.{Note}
 use Rattle.vertex_stacks.specs.Tales.{capped, with_note}
 use Rattle.sweep_visits.specs.Plan.{SweepPlan, dim_of, is_cell_in, is_opened}
 use Rattle.sweep_visits.specs.Visits.{Visit, enter, leave, visits_of, from_child}
-use Rattle.sweep_visits.specs.Runs.{turned_round}
 use Rattle.sweep_visits.specs.Moves.{moves_of, taken_by, put_by}
 use Rattle.sweep_streams.specs.Counts.{pushed_by}
 use Rattle.sweep_streams.specs.Records.{read_by, written_by, turned_plan}
@@ -27,7 +27,7 @@ use Rattle.tree_automaton.specs.Sweep.{TreeSweep, IsTreeSweep, served_by, record
 use Rattle.tree_automaton.specs.Promises.{Keeps, MayEnter, MayLeave, Meaning}
 use Rattle.tree_automaton.specs.Story.{Call, IsAmong, Story, IsOfOutput, Matched, with_calls}
 use Rattle.tree_automaton.specs.Moments.{IsDuring, IsStoreOf, flag_of, records_of}
-use Rattle.tree_automaton.specs.Views.{VertexFits, ViewFits, ViewGiven}
+use Rattle.tree_automaton.specs.Views.{VertexFits, ViewFits, ViewGiven, value_at_home}
 use Rattle.tree_automaton.specs.Visits.{IsBefore, CornerTaken}
 
 abbrev pub visit_of : Call → Visit
@@ -44,20 +44,29 @@ module _ {A : Type 0} (entered left : A → CellView → CellView → A → Type
   Chain [] a b = a ≡ b
   Chain (call ∷ calls) a b = (m : A) × Stands call.visit call.given call.made a m × Chain calls m b
 
+-- the visitor left this view at the enter of a cell
+pub record WasEntered (m : Story) (c : CellKey) (view : CellView) : Type 0 where
+  pub call : Call
+  pub among : IsAmong call m.calls
+  pub visit : call.visit ≡ enter c
+  pub same : view ≡ call.made
+
+-- below the root a cell carries a value of its parent's view, as the visitor left that at the parent's enter
+abbrev pub CarriesOfParent : Story → CellKey → State → Type 0
+CarriesOfParent m c carried = 0 < c.level → (parent : CellView) × WasEntered m (parent_of c) parent × (carried ≡ value_at_home (dim_of m.sweep.plan) parent)
+
 -- a call at the enter of a cell: the vertices of its view are as they were left last, and are changed as the kind allows
 pub record IsEntered (m : Story) (c : CellKey) (given made : CellView) : Type 0 where
   pub view : ViewGiven m.sweep c given
   pub taken : (n : ℕ) → n < corners (dim_of m.sweep.plan) → CornerTaken m c (corner_of c n) (corner_at given n)
+  pub carries : CarriesOfParent m c given.carried
   pub keeps : Keeps given made
   pub may : MayEnter m.sweep.serves m.sweep.plan.new given made
 
 -- a call at the leave of a cell: its view is the one that the visitor left at the enter
 pub record IsLeft (m : Story) (c : CellKey) (given made : CellView) : Type 0 where
   pub view : ViewFits m.sweep c given
-  pub call : Call
-  pub among : IsAmong call m.calls
-  pub visit : call.visit ≡ enter c
-  pub same : given ≡ call.made
+  pub entered : WasEntered m c given
   pub keeps : Keeps given made
   pub may : MayLeave m.sweep.serves m.sweep.plan.new given made
 
@@ -82,9 +91,15 @@ pub record IsFor (p : TreeSweep) (m : Meaning) : Type 0 where
   pub dim : m.dim ≡ dim_of p.plan
   pub grids : GridsAgree p.serves p m
 
+-- the view of a parent is as the visitor left it at the parent's enter
+abbrev pub ParentWasEntered : Story → CellKey → Option CellView → Type 0
+ParentWasEntered m c None = Unit {0}
+ParentWasEntered m c (Some view) = WasEntered m (parent_of c) view
+
 -- what the walk of a cell and all below it asks: a cell of one of the grids, whose visits come next
 pub record WalkAsks (m : Story) (meaning : Meaning) (made more : List Visit) (parent : Option CellView) (c : CellKey) (kind : Kind) (s : TreeLists) : Type 0 where
   pub before : IsBefore m.sweep parent c kind s
+  pub above : ParentWasEntered m c parent
   pub for_sweep : IsFor m.sweep meaning
   pub cell : (is_cell_in m.sweep.plan.old c || has_cell m.sweep.plan.new c) ≡ true
   pub during : IsDuring m made (cell_visits m.sweep.plan c ++ more) s
@@ -104,6 +119,7 @@ pub record BelowAsks (m : Story) (meaning : Meaning) (made more : List Visit) (c
   pub of : IsStoreOf m.sweep s
   pub for_sweep : IsFor m.sweep meaning
   pub view_is : ViewFits m.sweep c view
+  pub entered : WasEntered m c view
   pub during : IsDuring m made (visits ++ more) s
 
 -- what visits give: a chain of calls at the visits, and the store after them

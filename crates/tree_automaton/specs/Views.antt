@@ -1,5 +1,5 @@
 -- What views and vertex records hold in a sweep.
-use Rattle.std.specs.Prelude.{◌≡◌, ◌⊎◌, ℕ, ◌<◌, ◌≤◌, Bool, true, false, Option, Some, None, length, List, [], ◌∷◌, pos}
+use Rattle.std.specs.Prelude.{◌≡◌, ◌⊎◌, ℕ, ◌<◌, ◌≤◌, Bool, true, false, Option, Some, None, length, List, [], ◌∷◌, All, ◌+◌, pos}
 use Rattle.peano_keys.specs.declared.dim.Dim.{Dim}
 use Rattle.peano_keys.specs.declared.cell.CellKey.{CellKey}
 use Rattle.peano_keys.specs.declared.vertex.VertexKey.{VertexKey}
@@ -10,7 +10,7 @@ use Rattle.peano_keys.specs.declared.state.State.TheVariants.{Single}
 use Rattle.peano_keys.specs.Dim.{corners}
 use Rattle.peano_keys.specs.Cell.{parent_of}
 use Rattle.peano_keys.specs.Vertex.{corner_of, home_of, slot_from}
-use Rattle.peano_keys.specs.Grid.{Spacetree, IsGrid, IsStored}
+use Rattle.peano_keys.specs.Grid.{IsStored}
 use Rattle.peano_keys.specs.Field.{value_of, sides_of}
 use Rattle.peano_records.specs.declared.view.CellView.{CellView}
 use Rattle.peano_records.specs.declared.view.Corner.{Corner}
@@ -18,7 +18,7 @@ use Rattle.peano_records.specs.declared.view.Corner.TheVariants.{Vertex, Hanging
 use Rattle.peano_records.specs.Slots.{VertexRecord, fresh, slot_at}
 use Rattle.peano_records.specs.AtRest.{SaysOfCells, SaysOutside, HoldsCell}
 use Rattle.peano_records.specs.Tells.{corner_at}
-use Rattle.hanging_nodes.specs.Views.{AreGrids, HasSlots, IsStoredBefore}
+use Rattle.hanging_nodes.specs.Views.{HasSlots, IsStoredBefore}
 use Rattle.tree_automaton.specs.declared.kinds.Serves.{Serves}
 use Rattle.tree_automaton.specs.declared.kinds.Serves.TheVariants.{Raising, Adapting, Plain}
 use Rattle.sweep_visits.specs.Plan.{dim_of, is_cell_in}
@@ -98,6 +98,21 @@ value_in dim n Beyond = Single (pos 0)
 
 abbrev pub value_at_home : Dim → CellView → State
 value_at_home dim v = value_in dim (home_of dim v.key) (corner_at v (home_of dim v.key))
+
+-- a view into which cells of a dimension can be entered, one after another
+pub record IsPlace (dim : Dim) (v : CellView) : Type 0 where
+  pub eight : length v.corners ≡ 8
+  pub beyond : (n : ℕ) → corners dim ≤ n → corner_at v n ≡ Beyond
+
+-- such views, one for each level from one on
+pub record HavePlaces (dim : Dim) (level : ℕ) (views : List CellView) : Type 0 where
+  pub enough : 13 ≤ level + length views
+  pub each : All (IsPlace dim) views
+
+-- below the root a cell carries the value in its parent's slot at the parent's home corner
+abbrev pub CarriesFrom : Dim → Option CellView → State → Type 0
+CarriesFrom dim None carried = Unit {0}
+CarriesFrom dim (Some parent) carried = carried ≡ value_at_home dim parent
 
 -- whether a flag says that a cell is refined
 abbrev pub says : Option Bool → Bool

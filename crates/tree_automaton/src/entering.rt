@@ -1,7 +1,11 @@
 //! The enter of a cell.
-ghost use Rattle.std.specs.Prelude.{◌≡◌, ◌<◌, ◌≤◌, length, Option, List, pos, ◌≤ℤ◌, ◌+ℤ◌, false};
+ghost use Rattle.std.specs.Prelude.{◌≡◌, ◌<◌, ◌≤◌, ◌*◌, ◌+◌, ◌++◌, ◌∷◌, [], length, slice_set, IsTrue, IsFalse, Option, List, pos, ◌≤ℤ◌, ◌+ℤ◌, false};
 ghost use Rattle.std.specs.Option.{option_map};
-ghost use Rattle.peano_keys.specs.Dim.{corners};
+ghost use Rattle.peano_keys.specs.Dim.{axes, corners};
+ghost use Rattle.peano_records.specs.declared.view.Corner.TheVariants.{Vertex};
+ghost use Rattle.vertex_stacks.specs.Lists.{lane_at};
+ghost use Rattle.vertex_stacks.specs.Tales.{capped};
+ghost use Rattle.tree_automaton.specs.TreeLists.{page_count};
 ghost use Rattle.peano_keys.specs.Cell.{IsCell, parent_of};
 ghost use Rattle.peano_keys.specs.Field.{value_of, sides_of};
 ghost use Rattle.sweep_visits.specs.Visits.{Visit};
@@ -9,7 +13,7 @@ ghost use Rattle.sweep_visits.specs.Moves.{Move};
 ghost use Rattle.tree_automaton.specs.declared.kinds.Serves.TheVariants.{Plain};
 ghost use Rattle.tree_automaton.specs.Sweep.{TreeSweep, served_by};
 ghost use Rattle.tree_automaton.specs.Decisions.{Decides};
-ghost use Rattle.tree_automaton.specs.Views.{edges_all, value_at_home};
+ghost use Rattle.tree_automaton.specs.Views.{CarriesFrom, IsPlace, value_at_home};
 ghost use Rattle.tree_automaton.specs.Story.{Story};
 ghost use Rattle.tree_automaton.specs.Visits.{EnterAsks, EnterGives, IsSameTree, will_first, vertex_part, vertices_in};
 ghost use Rattle.tree_automaton.specs.Corners.{CornerAsks, CornerGives, CornersAsk, CornersGive, ReadAsks, ReadGives, AreTaken, MovesVertices, AreBeyond};
@@ -18,37 +22,99 @@ use crate::automaton::Automaton;
 use crate::decide::{Course, Entry, entry_of, is_old};
 use crate::kinds::Serves;
 use crate::store::TreeStore;
+use crate::views::{blank_view, edges};
 use hanging_nodes::sides_of;
-use peano_keys::{CellKey, Dim, Side, Sides, State, corner, home_corner, slot_of};
+use peano_keys::{CellKey, Dim, Sides, State, corner as corner_key, home_corner, slot_of};
 use peano_records::{CellView, Corner, Stored};
 use vertex_stacks::Kind;
 
-// Takes one corner of a cell.
+// Makes a corner one with a record, which is to be written over.
+fn make_vertex(corner: &mut Corner)
+    ensures { (v : Stored) × (corner.new ≡ Vertex v) }
+{
+    match corner {
+        Corner::Vertex(_) => {}
+        _ => {
+            *corner = Corner::Vertex(Stored::blank());
+        }
+    }
+}
+
+// Takes the next vertex of the input into a corner; false where the input is empty.
+fn take_input(store: &mut TreeStore, corner: &mut Corner) -> bool
+    ensures none { IsFalse result → store.old.lanes.input ≡ [] }
+    ensures first { IsTrue result → (v : Stored) × (corner.new ≡ Vertex v) × (store.old.lanes.input ≡ v ∷ store.new.lanes.input) }
+    ensures others { IsTrue result → store.new ≡ record store.old {
+      lanes = record store.old.lanes {
+        input = store.new.lanes.input;
+        spare = store.new.lanes.spare;
+        taken = capped (store.old.lanes.taken + 1);
+      };
+    } }
+    ensures spare { IsTrue result → (store.old.lanes.spare +ℤ pos 1) ≤ℤ store.new.lanes.spare }
+    ensures pages { page_count store.new.lanes ≡ page_count store.old.lanes }
+{
+    make_vertex(corner);
+    match corner {
+        Corner::Vertex(v) => store.take_input_into(v),
+        _ => unreachable!(),
+    }
+}
+
+// Takes the last vertex of a lane into a corner; false where the lane is empty.
+fn pop(store: &mut TreeStore, lane: u32, corner: &mut Corner) -> bool
+    requires { lane < 2 * axes store.old.lanes.dim }
+    ensures none { IsFalse result → lane_at store.old.lanes lane ≡ [] }
+    ensures last { IsTrue result → (v : Stored) × (corner.new ≡ Vertex v) × (lane_at store.old.lanes lane ≡ lane_at store.new.lanes lane ++ v ∷ []) }
+    ensures others { IsTrue result → store.new ≡ record store.old {
+      lanes = record store.old.lanes {
+        lanes = slice_set store.old.lanes.lanes lane (lane_at store.new.lanes lane);
+        spare = store.new.lanes.spare;
+      };
+    } }
+    ensures spare { IsTrue result → (store.old.lanes.spare +ℤ pos 1) ≤ℤ store.new.lanes.spare }
+    ensures pages { page_count store.new.lanes ≡ page_count store.old.lanes }
+{
+    make_vertex(corner);
+    match corner {
+        Corner::Vertex(v) => store.pop_into(lane, v),
+        _ => unreachable!(),
+    }
+}
+
+// Takes one corner of a cell into its place.
 fn take_corner(
     store: &mut TreeStore,
     course: &Course,
     parent: Option<&CellView>,
     cell: CellKey,
     n: u32,
-) -> Corner
+    corner: &mut Corner,
+)
     requires cell { IsCell course.now.dim cell }
     requires corner { n < corners course.now.dim }
     requires asks { (m : Story) × (made : List Move) × (more : List Move) × CornerAsks m made more course.now (option_map (λ v. v.now) parent) cell n store.old }
-    ensures taken { (m : Story) (made more : List Move) → CornerAsks m made more course.now (option_map (λ v. v.now) parent.entry) cell n store.old → CornerGives m made more cell n store.new result }
+    ensures taken { (m : Story) (made more : List Move) → CornerAsks m made more course.now (option_map (λ v. v.now) parent.entry) cell n store.old → CornerGives m made more cell n store.new corner.new }
     ensures others { MovesVertices store.old store.new }
-    ensures spare { course.now.serves ≡ Plain → (store.old.lanes.spare +ℤ pos (vertex_part result)) ≤ℤ store.new.lanes.spare }
+    ensures spare { course.now.serves ≡ Plain → (store.old.lanes.spare +ℤ pos (vertex_part corner.new)) ≤ℤ store.new.lanes.spare }
 {
     match entry_of(course, parent, cell, n) {
-        Entry::Lane(lane) => match store.pop(lane) {
-            Some(v) => Corner::Vertex(v),
-            None => unreachable!(),
-        },
-        Entry::Input => match store.take_input() {
-            Some(v) => Corner::Vertex(v),
-            None => unreachable!(),
-        },
-        Entry::Made => Corner::Vertex(Stored::new(course.dim, corner(course.dim, cell, n))),
-        Entry::Hanging => Corner::Hanging(corner(course.dim, cell, n)),
+        Entry::Lane(lane) => {
+            if !pop(store, lane, corner) {
+                unreachable!();
+            }
+        }
+        Entry::Input => {
+            if !take_input(store, corner) {
+                unreachable!();
+            }
+        }
+        Entry::Made => {
+            *corner = Corner::Vertex(Stored::new(course.dim, corner_key(course.dim, cell, n)));
+        }
+        Entry::Hanging => {
+            *corner = Corner::Hanging(corner_key(course.dim, cell, n));
+        }
     }
 }
 
@@ -63,37 +129,29 @@ pub(crate) fn corner_count(dim: Dim) -> u32
     }
 }
 
-// Takes all corners of a cell, the greatest number first.
+// Takes all corners of a cell into their places, the greatest number first.
 fn take_corners(
     store: &mut TreeStore,
     course: &Course,
     parent: Option<&CellView>,
     cell: CellKey,
-) -> [Corner; 8]
+    taken: &mut [Corner; 8],
+)
     requires cell { IsCell course.now.dim cell }
+    requires eight { length taken.old ≡ 8 }
+    requires beyond { AreBeyond (corners course.now.dim) taken.old }
     requires asks { (m : Story) × (made : List Move) × (more : List Move) × CornersAsk m made more course.now (option_map (λ v. v.now) parent) cell store.old }
-    ensures eight { length result ≡ 8 }
-    ensures taken { (m : Story) (made more : List Move) → CornersAsk m made more course.now (option_map (λ v. v.now) parent.entry) cell store.old → CornersGive m more course.now cell 0 store.new result }
-    ensures beyond { AreBeyond (corners course.now.dim) result }
+    ensures eight { length taken.new ≡ 8 }
+    ensures taken { (m : Story) (made more : List Move) → CornersAsk m made more course.now (option_map (λ v. v.now) parent.entry) cell store.old → CornersGive m more course.now cell 0 store.new taken.new }
+    ensures beyond { AreBeyond (corners course.now.dim) taken.new }
     ensures others { MovesVertices store.old store.new }
-    ensures spare { course.now.serves ≡ Plain → (store.old.lanes.spare +ℤ pos (vertices_in result)) ≤ℤ store.new.lanes.spare }
+    ensures spare { course.now.serves ≡ Plain → (store.old.lanes.spare +ℤ pos (vertices_in taken.new)) ≤ℤ store.new.lanes.spare }
 {
-    let mut taken = [
-        Corner::Beyond,
-        Corner::Beyond,
-        Corner::Beyond,
-        Corner::Beyond,
-        Corner::Beyond,
-        Corner::Beyond,
-        Corner::Beyond,
-        Corner::Beyond,
-    ];
     let count = corner_count(course.dim);
     for k in 0..count {
         let n = count - 1 - k;
-        taken[n as usize] = take_corner(store, course, parent, cell, n);
+        take_corner(store, course, parent, cell, n, &mut taken[n as usize]);
     }
-    taken
 }
 
 // What the old grid's stream has of a cell: whether it is refined, none where it is no cell there, and its task.
@@ -117,16 +175,6 @@ fn read_cell(
     }
 }
 
-// Sides of a cell that is alone.
-fn edges() -> Sides
-    ensures { result ≡ edges_all }
-{
-    Sides {
-        low: [Side::Edge; 3],
-        high: [Side::Edge; 3],
-    }
-}
-
 // What a cell sees across its faces, where a plain sweep tells.
 fn sides_here(
     course: &Course,
@@ -147,11 +195,12 @@ fn sides_here(
     }
 }
 
-// The value of the parent, where a plain sweep tells.
+// The value in the parent's slot at its home corner; in a plain sweep that of the parent.
 fn carried_here(course: &Course, parent: Option<&CellView>, cell: CellKey) -> State
     requires cell { IsCell course.now.dim cell }
     requires asks { (p : TreeSweep) × Decides p course.now (option_map (λ v. v.now) parent) cell }
-    ensures { (p : TreeSweep) → Decides p course.now (option_map (λ v. v.now) parent.entry) cell → course.now.serves ≡ Plain → 0 < cell.level → result ≡ value_of p.plan.new p.field (parent_of cell) }
+    ensures at_home { CarriesFrom course.now.dim (option_map (λ v. v.now) parent.entry) result }
+    ensures plain { (p : TreeSweep) → Decides p course.now (option_map (λ v. v.now) parent.entry) cell → course.now.serves ≡ Plain → 0 < cell.level → result ≡ value_of p.plan.new p.field (parent_of cell) }
 {
     match parent {
         Some(view) => carried_from(course.dim, view),
@@ -182,6 +231,36 @@ fn first_will(serves: Serves, was: Option<bool>) -> Option<bool>
     }
 }
 
+// Enters a cell into a view, whatever the view held.
+pub(crate) fn enter_into(
+    store: &mut TreeStore,
+    parent: Option<&CellView>,
+    cell: CellKey,
+    kind: Kind,
+    view: &mut CellView,
+)
+    requires cell { IsCell store.old.lanes.dim cell }
+    requires place { IsPlace store.old.lanes.dim view.old }
+    requires asks { (m : Story) × (made : List Visit) × (more : List Visit) × EnterAsks m made more (option_map (λ v. v.now) parent) cell kind store.old }
+    ensures entered { (m : Story) (made more : List Visit) → EnterAsks m made more (option_map (λ v. v.now) parent.entry) cell kind store.old → EnterGives m made more cell store.new view.new }
+    ensures carried { CarriesFrom store.old.lanes.dim (option_map (λ v. v.now) parent.entry) view.new.carried }
+    ensures key { view.new.key ≡ cell }
+    ensures place { IsPlace store.old.lanes.dim view.new }
+    ensures others { store.new ≡ record store.old { cells = store.new.cells; lanes = store.new.lanes; live = false } }
+    ensures tree { IsSameTree store.old store.new }
+    ensures spare { served_by kind ≡ Plain → (store.old.lanes.spare +ℤ pos (vertices_in view.new.corners)) ≤ℤ store.new.lanes.spare }
+{
+    let course = store.course(kind);
+    let (was, task) = read_cell(store, &course, parent, cell);
+    take_corners(store, &course, parent, cell, &mut view.corners);
+    view.key = cell;
+    view.was = was;
+    view.will = first_will(course.serves, was);
+    view.task = task;
+    view.sides = sides_here(&course, parent, cell, &view.corners);
+    view.carried = carried_here(&course, parent, cell);
+}
+
 impl Automaton {
     /// Enters a cell: takes its record and its corners, and makes its view.
     pub fn enter(
@@ -193,22 +272,13 @@ impl Automaton {
         requires cell { IsCell store.old.lanes.dim cell }
         requires asks { (m : Story) × (made : List Visit) × (more : List Visit) × EnterAsks m made more (option_map (λ v. v.now) parent) cell kind store.old }
         ensures entered { (m : Story) (made more : List Visit) → EnterAsks m made more (option_map (λ v. v.now) parent.entry) cell kind store.old → EnterGives m made more cell store.new result }
+        ensures carried { CarriesFrom store.old.lanes.dim (option_map (λ v. v.now) parent.entry) result.carried }
         ensures others { store.new ≡ record store.old { cells = store.new.cells; lanes = store.new.lanes; live = false } }
         ensures tree { IsSameTree store.old store.new }
         ensures spare { served_by kind ≡ Plain → (store.old.lanes.spare +ℤ pos (vertices_in result.corners)) ≤ℤ store.new.lanes.spare }
     {
-        let course = store.course(kind);
-        let (was, task) = read_cell(store, &course, parent, cell);
-        let corners = take_corners(store, &course, parent, cell);
-        let sides = sides_here(&course, parent, cell, &corners);
-        CellView {
-            key: cell,
-            was,
-            will: first_will(course.serves, was),
-            corners,
-            sides,
-            carried: carried_here(&course, parent, cell),
-            task,
-        }
+        let mut view = blank_view();
+        enter_into(store, parent, cell, kind, &mut view);
+        view
     }
 }

@@ -21,55 +21,55 @@ use crate::store::TreeStore;
 use peano_keys::CellKey;
 use peano_records::{CellRecord, CellView, Corner};
 use std::alloc::AllocError;
-use std::mem;
 use vertex_stacks::Kind;
 
-// Gives one corner of a cell.
+// Gives one corner of a cell; what stays in its place may be written over.
 fn give_corner(
     store: &mut TreeStore,
     course: &Course,
     parent: Option<&CellView>,
     cell: CellKey,
     n: u32,
-    given: Corner,
+    given: &mut Corner,
 ) -> Result<(), AllocError>
     requires cell { IsCell course.now.dim cell }
     requires corner { n < corners course.now.dim }
-    requires asks { (m : Story) × (made : List Move) × (more : List Move) × GiveAsks m made more course.now (option_map (λ v. v.now) parent) cell n given store.old }
-    ensures given { OnOk result ((m : Story) (made more : List Move) → GiveAsks m made more course.now (option_map (λ v. v.now) parent.entry) cell n given store.old → GiveGives m made more cell n store.new) }
+    requires asks { (m : Story) × (made : List Move) × (more : List Move) × GiveAsks m made more course.now (option_map (λ v. v.now) parent) cell n given.old store.old }
+    ensures left { given.new ≡ given.old }
+    ensures given { OnOk result ((m : Story) (made more : List Move) → GiveAsks m made more course.now (option_map (λ v. v.now) parent.entry) cell n given.old store.old → GiveGives m made more cell n store.new) }
     ensures others { MovesVertices store.old store.new }
-    ensures spare { OnOk result (store.old.lanes.spare ≤ℤ (store.new.lanes.spare +ℤ pos (vertex_part given))) }
-    ensures memory { pos (vertex_part given) ≤ℤ store.old.lanes.spare → IsOk result }
+    ensures spare { OnOk result (store.old.lanes.spare ≤ℤ (store.new.lanes.spare +ℤ pos (vertex_part given.old))) }
+    ensures memory { pos (vertex_part given.old) ≤ℤ store.old.lanes.spare → IsOk result }
 {
     match given {
         Corner::Vertex(v) => match exit_of(course, parent, cell, n) {
-            Exit::Lane(lane) => store.push(lane, v),
-            Exit::Output => store.put_output(v),
+            Exit::Lane(lane) => store.push_from(lane, v),
+            Exit::Output => store.put_output_from(v),
             Exit::GivenUp => Ok(()),
         },
         _ => Ok(()),
     }
 }
 
-// Gives all corners of a cell, the least number first.
+// Gives all corners of a cell, the least number first; what stays in their places may be written over.
 fn give_corners(
     store: &mut TreeStore,
     course: &Course,
     parent: Option<&CellView>,
     cell: CellKey,
-    mut given: [Corner; 8],
+    given: &mut [Corner; 8],
 ) -> Result<(), AllocError>
     requires cell { IsCell course.now.dim cell }
-    requires eight { length given ≡ 8 }
-    requires asks { (m : Story) × (made : List Move) × (more : List Move) × GiveAllAsks m made more course.now (option_map (λ v. v.now) parent) cell given store.old }
-    ensures given { OnOk result ((m : Story) (made more : List Move) → GiveAllAsks m made more course.now (option_map (λ v. v.now) parent.entry) cell given store.old → GivenBelow m more cell (corners course.now.dim) 0 store.new) }
+    requires eight { length given.old ≡ 8 }
+    requires asks { (m : Story) × (made : List Move) × (more : List Move) × GiveAllAsks m made more course.now (option_map (λ v. v.now) parent) cell given.old store.old }
+    ensures left { given.new ≡ given.old }
+    ensures given { OnOk result ((m : Story) (made more : List Move) → GiveAllAsks m made more course.now (option_map (λ v. v.now) parent.entry) cell given.old store.old → GivenBelow m more cell (corners course.now.dim) 0 store.new) }
     ensures others { MovesVertices store.old store.new }
-    ensures spare { OnOk result (store.old.lanes.spare ≤ℤ (store.new.lanes.spare +ℤ pos (vertices_in given))) }
-    ensures memory { pos (vertices_in given) ≤ℤ store.old.lanes.spare → IsOk result }
+    ensures spare { OnOk result (store.old.lanes.spare ≤ℤ (store.new.lanes.spare +ℤ pos (vertices_in given.old))) }
+    ensures memory { pos (vertices_in given.old) ≤ℤ store.old.lanes.spare → IsOk result }
 {
     for n in 0..corner_count(course.dim) {
-        let one = mem::replace(&mut given[n as usize], Corner::Beyond);
-        give_corner(store, course, parent, cell, n, one)?;
+        give_corner(store, course, parent, cell, n, &mut given[n as usize])?;
     }
     Ok(())
 }
@@ -104,6 +104,29 @@ fn write_cell(
     Ok(())
 }
 
+// Leaves the cell of a view; what stays in the view may be written over.
+pub(crate) fn leave_from(
+    store: &mut TreeStore,
+    parent: Option<&CellView>,
+    view: &mut CellView,
+    kind: Kind,
+) -> Result<(), AllocError>
+    requires cell { IsCell store.old.lanes.dim view.old.key }
+    requires asks { (m : Story) × (made : List Visit) × (more : List Visit) × LeaveAsks m made more (option_map (λ v. v.now) parent) view.old.key view.old kind store.old }
+    ensures stays { view.new ≡ view.old }
+    ensures left { OnOk result ((m : Story) (made more : List Visit) → LeaveAsks m made more (option_map (λ v. v.now) parent.entry) view.old.key view.old kind store.old → LeaveGives m made more view.old.key view.old store.new) }
+    ensures others { store.new ≡ record store.old { written = store.new.written; lanes = store.new.lanes; cell_room = store.new.cell_room; counted = store.new.counted } }
+    ensures tree { IsSameTree store.old store.new }
+    ensures spare { OnOk result (store.old.lanes.spare ≤ℤ (store.new.lanes.spare +ℤ pos (vertices_in view.old.corners))) }
+    ensures cells { spare_cells store.old ≤ spare_cells store.new + 1 }
+    ensures room { store.old.cell_room ≤ store.new.cell_room }
+    ensures memory { pos (vertices_in view.old.corners) ≤ℤ store.old.lanes.spare → 0 < spare_cells store.old → IsOk result }
+{
+    let course = store.course(kind);
+    give_corners(store, &course, parent, view.key, &mut view.corners)?;
+    write_cell(store, &course, parent, view.key, view.will, view.task)
+}
+
 impl Automaton {
     /// Leaves a cell: gives its corners and its record back. Takes no memory where the lanes have room to spare for the
     /// view's vertices, and the cell stream for one record.
@@ -123,17 +146,7 @@ impl Automaton {
         ensures room { store.old.cell_room ≤ store.new.cell_room }
         ensures memory { pos (vertices_in view.corners) ≤ℤ store.old.lanes.spare → 0 < spare_cells store.old → IsOk result }
     {
-        let course = store.course(kind);
-        let CellView {
-            key,
-            was: _,
-            will,
-            corners,
-            sides: _,
-            carried: _,
-            task,
-        } = view;
-        give_corners(store, &course, parent, key, corners)?;
-        write_cell(store, &course, parent, key, will, task)
+        let mut view = view;
+        leave_from(store, parent, &mut view, kind)
     }
 }

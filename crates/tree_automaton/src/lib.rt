@@ -9,6 +9,7 @@ mod kinds;
 pub mod laws;
 mod leaving;
 mod store;
+mod views;
 mod visitor;
 mod walks;
 

@@ -1,7 +1,7 @@
 //! The store of a tree: its cell stream, its vertices and the numbers that it keeps between sweeps.
-ghost use Rattle.std.specs.Prelude.{◌≡◌, ◌↔◌, IsTrue, ◌*◌, ◌<◌, ◌≤◌, ◌+◌, ◌++◌, ◌∷◌, [], true, false, reverse, length, pos, ◌<ℤ◌, ◌≤ℤ◌, ◌+ℤ◌, IfSome, OnErr, OnOk, IsOk, IsSomeAnd, slice_get, slice_set};
+ghost use Rattle.std.specs.Prelude.{◌≡◌, ◌↔◌, IsTrue, IsFalse, ◌*◌, ◌<◌, ◌≤◌, ◌+◌, ◌++◌, ◌∷◌, [], true, false, reverse, length, pos, ◌<ℤ◌, ◌≤ℤ◌, ◌+ℤ◌, IfSome, OnErr, OnOk, IsOk, IsSomeAnd, slice_get, slice_set};
 ghost use Rattle.peano_keys.specs.Dim.{axes};
-ghost use Rattle.peano_records.specs.Slots.{with_slot};
+ghost use Rattle.peano_records.specs.Slots.{slot_at, with_slot};
 ghost use Rattle.vertex_stacks.specs.Lists.{lane_at, held, IsDrained, nothing_moved, parcel_of};
 ghost use Rattle.vertex_stacks.specs.Tales.{capped, with_note};
 ghost use Rattle.peano_curve.specs.declared.order.Direction.TheVariants.{Forward, Backward};
@@ -12,7 +12,7 @@ ghost use Rattle.tree_automaton.specs.Sweep.{served_by};
 use crate::decide::Course;
 use crate::kinds::Serves;
 use peano_curve::{Direction, Range};
-use peano_keys::Dim;
+use peano_keys::{Dim, VertexKey};
 use peano_records::{CellRecord, Parcel, Slot, Stored};
 use std::alloc::{AllocError, Global};
 use std::marker::Model;
@@ -179,6 +179,33 @@ impl TreeStore {
         self.cells.len() <= self.written.capacity()
     }
 
+    /// How many vertices lie in the input.
+    pub fn input_count(&self) -> u64
+        ensures { result ≡ length self.now.lanes.input }
+    {
+        self.lanes.input_count()
+    }
+
+    /// The key of the vertex at a place of the input, in the order in which they will be taken. Takes no memory.
+    pub fn key_at(&self, k: u64) -> VertexKey
+        requires live { self.now.live ≡ true }
+        requires place { k < length self.now.lanes.input }
+        ensures { IsSomeAnd (slice_get self.now.lanes.input k) (λ v. result ≡ v.key) }
+    {
+        self.lanes.key_at(k)
+    }
+
+    /// One slot of the vertex at a place of the input, in the order in which they will be taken. Takes no memory.
+    pub fn slot_at(&self, k: u64, n: u32) -> Slot
+        requires live { self.now.live ≡ true }
+        requires place { k < length self.now.lanes.input }
+        requires slot { n < 8 }
+        ensures slot { IsSomeAnd (slice_get self.now.lanes.input k) (λ v. result ≡ slot_at v n) }
+        ensures eight { IsSomeAnd (slice_get self.now.lanes.input k) (λ v. length v.slots ≡ 8) }
+    {
+        self.lanes.slot_at(k, n)
+    }
+
     /// The vertex at a place of the input, in the order in which they will be taken, as plain data. Takes no memory.
     pub fn parcel_at(&self, k: u64) -> Parcel
         requires live { self.now.live ≡ true }
@@ -257,45 +284,46 @@ impl TreeStore {
         self.counted = self.counted.saturating_add(1);
     }
 
-    // The next vertex of the input.
-    pub(crate) fn take_input(&mut self) -> Option<Stored>
-        ensures none { result ≡ None → (self.old.lanes.input ≡ []) × (self.new ≡ self.old) }
-        ensures first { IfSome result (λ v. self.old.lanes.input ≡ v ∷ self.new.lanes.input) }
-        ensures others { IfSome result (λ _. self.new ≡ record self.old {
+    // Takes the next vertex of the input into a place, over what lies there; false where the input is empty.
+    pub(crate) fn take_input_into(&mut self, v: &mut Stored) -> bool
+        ensures none { IsFalse result → (self.old.lanes.input ≡ []) × (self.new ≡ self.old) }
+        ensures first { IsTrue result → self.old.lanes.input ≡ v.new ∷ self.new.lanes.input }
+        ensures others { IsTrue result → self.new ≡ record self.old {
           lanes = record self.old.lanes {
             input = self.new.lanes.input;
             spare = self.new.lanes.spare;
             taken = capped (self.old.lanes.taken + 1);
           };
-        }) }
-        ensures spare { IfSome result (λ _. (self.old.lanes.spare +ℤ pos 1) ≤ℤ self.new.lanes.spare) }
+        } }
+        ensures spare { IsTrue result → (self.old.lanes.spare +ℤ pos 1) ≤ℤ self.new.lanes.spare }
         ensures pages { page_count self.new.lanes ≡ page_count self.old.lanes }
     {
-        self.lanes.take_input()
+        self.lanes.take_input_into(v)
     }
 
-    // The last vertex of a lane.
-    pub(crate) fn pop(&mut self, lane: u32) -> Option<Stored>
+    // Takes the last vertex of a lane into a place, over what lies there; false where the lane is empty.
+    pub(crate) fn pop_into(&mut self, lane: u32, v: &mut Stored) -> bool
         requires { lane < 2 * axes self.old.lanes.dim }
-        ensures none { result ≡ None → (lane_at self.old.lanes lane ≡ []) × (self.new ≡ self.old) }
-        ensures last { IfSome result (λ v. lane_at self.old.lanes lane ≡ lane_at self.new.lanes lane ++ v ∷ []) }
-        ensures others { IfSome result (λ _. self.new ≡ record self.old {
+        ensures none { IsFalse result → (lane_at self.old.lanes lane ≡ []) × (self.new ≡ self.old) }
+        ensures last { IsTrue result → lane_at self.old.lanes lane ≡ lane_at self.new.lanes lane ++ v.new ∷ [] }
+        ensures others { IsTrue result → self.new ≡ record self.old {
           lanes = record self.old.lanes {
             lanes = slice_set self.old.lanes.lanes lane (lane_at self.new.lanes lane);
             spare = self.new.lanes.spare;
           };
-        }) }
-        ensures spare { IfSome result (λ _. (self.old.lanes.spare +ℤ pos 1) ≤ℤ self.new.lanes.spare) }
+        } }
+        ensures spare { IsTrue result → (self.old.lanes.spare +ℤ pos 1) ≤ℤ self.new.lanes.spare }
         ensures pages { page_count self.new.lanes ≡ page_count self.old.lanes }
     {
-        self.lanes.pop(lane)
+        self.lanes.pop_into(lane, v)
     }
 
-    // Puts a vertex behind the output.
-    pub(crate) fn put_output(&mut self, v: Stored) -> Result<(), AllocError>
+    // Puts the vertex of a place behind the output.
+    pub(crate) fn put_output_from(&mut self, v: &mut Stored) -> Result<(), AllocError>
+        ensures left { v.new ≡ v.old }
         ensures ok { OnOk result (self.new ≡ record self.old {
           lanes = record self.old.lanes {
-            output = self.old.lanes.output ++ v ∷ [];
+            output = self.old.lanes.output ++ v.old ∷ [];
             spare = self.new.lanes.spare;
             put = capped (self.old.lanes.put + 1);
           };
@@ -305,18 +333,16 @@ impl TreeStore {
         ensures room { pos 0 <ℤ self.old.lanes.spare → IsOk result }
         ensures pages { page_count self.old.lanes ≤ page_count self.new.lanes }
     {
-        match self.lanes.put_output(v) {
-            Ok(()) => Ok(()),
-            Err(_) => Err(AllocError),
-        }
+        self.lanes.put_output_from(v)
     }
 
-    // Puts a vertex on top of a lane.
-    pub(crate) fn push(&mut self, lane: u32, v: Stored) -> Result<(), AllocError>
+    // Puts the vertex of a place on top of a lane.
+    pub(crate) fn push_from(&mut self, lane: u32, v: &mut Stored) -> Result<(), AllocError>
         requires { lane < 2 * axes self.old.lanes.dim }
+        ensures left { v.new ≡ v.old }
         ensures ok { OnOk result (self.new ≡ record self.old {
           lanes = record self.old.lanes {
-            lanes = slice_set self.old.lanes.lanes lane (lane_at self.old.lanes lane ++ v ∷ []);
+            lanes = slice_set self.old.lanes.lanes lane (lane_at self.old.lanes lane ++ v.old ∷ []);
             spare = self.new.lanes.spare;
             pushed = capped (self.old.lanes.pushed + 1);
           };
@@ -326,10 +352,7 @@ impl TreeStore {
         ensures room { pos 0 <ℤ self.old.lanes.spare → IsOk result }
         ensures pages { page_count self.old.lanes ≤ page_count self.new.lanes }
     {
-        match self.lanes.push(lane, v) {
-            Ok(()) => Ok(()),
-            Err(_) => Err(AllocError),
-        }
+        self.lanes.push_from(lane, v)
     }
 
     // Makes room for a sweep that moves no more than lies here: every vertex and every cell record may go from list to list.

@@ -1,5 +1,5 @@
 //! The walk of the cells of a tree.
-ghost use Rattle.std.specs.Prelude.{◌≡◌, ◌-◌, ◌^◌, ◌<◌, ◌≤◌, Option, List, Some, OnOk, OnErr, IsOk, IfOk, true, false, pos, ◌≤ℤ◌};
+ghost use Rattle.std.specs.Prelude.{◌≡◌, ◌+◌, ◌-◌, ◌^◌, ◌<◌, ◌≤◌, Option, List, Some, OnOk, OnErr, IsOk, IfOk, true, false, pos, ◌≤ℤ◌};
 ghost use Rattle.std.specs.Option.{option_map};
 ghost use Rattle.peano_keys.specs.Cell.{IsCell, parent_of, root as root_cell};
 ghost use Rattle.peano_curve.specs.Order.{place_along};
@@ -12,15 +12,17 @@ ghost use Rattle.tree_automaton.specs.declared.kinds.Serves.TheVariants.{Plain};
 ghost use Rattle.tree_automaton.specs.Sweep.{TreeSweep, IsTreeSweep, cell_visits, flag_in, served_by};
 ghost use Rattle.tree_automaton.specs.Decisions.{Decides};
 ghost use Rattle.tree_automaton.specs.Promises.{IsViewIn};
-ghost use Rattle.tree_automaton.specs.Views.{ViewFits, says};
+ghost use Rattle.tree_automaton.specs.Views.{IsPlace, HavePlaces, ViewFits, says};
 ghost use Rattle.tree_automaton.specs.Story.{Story};
 ghost use Rattle.tree_automaton.specs.Visits.{ViewTaken, IsSameTree};
 ghost use Rattle.tree_automaton.specs.Sweeps.{SweepAsks, SweepGives, IsFor, WalkAsks, BelowAsks, VisitsGive, HasRoom, StaysNotLive, KeepsRoom, visits_below, visits_rest};
 
-use crate::automaton::Automaton;
 use crate::decide::{Course, is_new};
+use crate::entering::enter_into;
 use crate::kinds::Serves;
+use crate::leaving::leave_from;
 use crate::store::TreeStore;
+use crate::views::{blank_view, blank_views};
 use crate::visitor::Visitor;
 use peano_curve::{first_child, interval, next_child};
 use peano_keys::CellKey;
@@ -68,7 +70,7 @@ fn is_refined(flag: Option<bool>) -> bool
     }
 }
 
-// Visits a cell that the tree holds, and all below it.
+// Visits a cell that the tree holds, and all below it. The cell is entered into a view, and those below it into others.
 #[cycle(walks)]
 fn walk<V: Visitor>(
     store: &mut TreeStore,
@@ -76,9 +78,15 @@ fn walk<V: Visitor>(
     kind: Kind,
     parent: Option<&CellView>,
     cell: CellKey,
+    view: &mut CellView,
+    below: &mut [CellView],
 ) -> Result<(), AllocError>
     requires cell { IsCell store.old.lanes.dim cell }
+    requires place { IsPlace store.old.lanes.dim view.old }
+    requires places { HavePlaces store.old.lanes.dim (cell.level + 1) below.old }
     requires asks { (m : Story) × (made : List Visit) × (more : List Visit) × WalkAsks m (V.meaning visitor.old) made more (option_map (λ v. v.now) parent) cell kind store.old }
+    ensures place { OnOk result (IsPlace store.old.lanes.dim view.new) }
+    ensures places { OnOk result (HavePlaces store.old.lanes.dim (cell.level + 1) below.new) }
     ensures done { OnOk result ((m : Story) (made more : List Visit) → WalkAsks m (V.meaning visitor.old) made more (option_map (λ v. v.now) parent.entry) cell kind store.old → VisitsGive V.entered V.left m made (cell_visits m.sweep.plan cell) more store.new visitor.old visitor.new) }
     ensures same { V.meaning visitor.new ≡ V.meaning visitor.old }
     ensures tree { IsSameTree store.old store.new }
@@ -90,12 +98,12 @@ fn walk<V: Visitor>(
     if !interval(course.dim, cell, course.depth).meets(&course.range) {
         return Ok(());
     }
-    let mut view = Automaton::enter(store, parent, cell, kind);
-    foresee(visitor, &course, parent, &mut view);
-    visitor.enter(&mut view)?;
-    walk_below(store, visitor, kind, &view)?;
-    visitor.leave(&mut view)?;
-    Automaton::leave(store, parent, view, kind)
+    enter_into(store, parent, cell, kind, view);
+    foresee(visitor, &course, parent, view);
+    visitor.enter(view)?;
+    walk_below(store, visitor, kind, view, below)?;
+    visitor.leave(view)?;
+    leave_from(store, parent, view, kind)
 }
 
 // Visits all below a cell.
@@ -105,9 +113,12 @@ fn walk_below<V: Visitor>(
     visitor: &mut V,
     kind: Kind,
     view: &CellView,
+    views: &mut [CellView],
 ) -> Result<(), AllocError>
     requires cell { IsCell store.old.lanes.dim view.now.key }
+    requires places { HavePlaces store.old.lanes.dim (view.now.key.level + 1) views.old }
     requires asks { (m : Story) × (made : List Visit) × (more : List Visit) × BelowAsks m (V.meaning visitor.old) made more view.now.key view.now (visits_below m.sweep.plan view.now.key) kind store.old }
+    ensures places { OnOk result (HavePlaces store.old.lanes.dim (view.now.key.level + 1) views.new) }
     ensures done { OnOk result ((m : Story) (made more : List Visit) → BelowAsks m (V.meaning visitor.old) made more view.now.key view.now (visits_below m.sweep.plan view.now.key) kind store.old → VisitsGive V.entered V.left m made (visits_below m.sweep.plan view.now.key) more store.new visitor.old visitor.new) }
     ensures same { V.meaning visitor.new ≡ V.meaning visitor.old }
     ensures tree { IsSameTree store.old store.new }
@@ -118,8 +129,11 @@ fn walk_below<V: Visitor>(
     if !is_opened(view) {
         return Ok(());
     }
-    let first = first_child(store.dim(), view.key, store.direction());
-    walk_from(store, visitor, kind, view, first)
+    let child = first_child(store.dim(), view.key, store.direction());
+    match views.split_first_mut() {
+        Some((first, below)) => walk_from(store, visitor, kind, view, child, first, below),
+        None => unreachable!(),
+    }
 }
 
 // Visits a child, the siblings after it, and all below them.
@@ -130,11 +144,17 @@ fn walk_from<V: Visitor>(
     kind: Kind,
     parent: &CellView,
     cell: CellKey,
+    view: &mut CellView,
+    below: &mut [CellView],
 ) -> Result<(), AllocError>
     requires cell { IsCell store.old.lanes.dim cell }
+    requires place { IsPlace store.old.lanes.dim view.old }
+    requires places { HavePlaces store.old.lanes.dim (cell.level + 1) below.old }
     requires child { parent_of cell ≡ parent.now.key }
     requires below { 1 ≤ cell.level }
     requires asks { (m : Story) × (made : List Visit) × (more : List Visit) × BelowAsks m (V.meaning visitor.old) made more parent.now.key parent.now (visits_rest m.sweep.plan cell) kind store.old × (is_opened m.sweep.plan parent.now.key ≡ true) }
+    ensures place { OnOk result (IsPlace store.old.lanes.dim view.new) }
+    ensures places { OnOk result (HavePlaces store.old.lanes.dim (cell.level + 1) below.new) }
     ensures done { OnOk result ((m : Story) (made more : List Visit) → BelowAsks m (V.meaning visitor.old) made more parent.now.key parent.now (visits_rest m.sweep.plan cell) kind store.old → is_opened m.sweep.plan parent.now.key ≡ true → VisitsGive V.entered V.left m made (visits_rest m.sweep.plan cell) more store.new visitor.old visitor.new) }
     ensures same { V.meaning visitor.new ≡ V.meaning visitor.old }
     ensures tree { IsSameTree store.old store.new }
@@ -142,9 +162,9 @@ fn walk_from<V: Visitor>(
     ensures room { OnOk result (KeepsRoom kind store.old store.new) }
     ensures memory { (m : Story) (made more : List Visit) → BelowAsks m (V.meaning visitor.old) made more parent.now.key parent.now (visits_rest m.sweep.plan cell) kind store.old → is_opened m.sweep.plan parent.now.key ≡ true → HasRoom m.sweep (V.meaning visitor.old) store.old → IsOk result }
 {
-    walk(store, visitor, kind, Some(parent), cell)?;
+    walk(store, visitor, kind, Some(parent), cell, view, below)?;
     match next_child(store.dim(), cell, store.direction()) {
-        Some(next) => walk_from(store, visitor, kind, parent, next),
+        Some(next) => walk_from(store, visitor, kind, parent, next, view, below),
         None => Ok(()),
     }
 }
@@ -170,7 +190,9 @@ pub fn sweep<V: Visitor>(
 {
     store.stop();
     store.reserve()?;
-    walk(store, visitor, kind, None, root())?;
+    let mut view = blank_view();
+    let mut below = blank_views();
+    walk(store, visitor, kind, None, root(), &mut view, &mut below)?;
     Ok(store.turn(step, kind))
 }
 

@@ -1,11 +1,11 @@
 -- Pages as one list.
-use Rattle.std.proofs.Common.{◌≡◌, ℕ, zero, suc, ◌+◌, ◌-◌, ◌*◌, ◌/◌, ◌%◌, ◌<◌, ◌≤◌, List, [], ◌∷◌, ◌++◌, length, get_or, take, set, arith, refl, ap, sym, ◌∙◌, length-append, length-set, ⊎_elim, subst}
+use Rattle.std.proofs.Common.{◌≡◌, ℕ, zero, suc, Bool, true, false, ◌+◌, ◌-◌, ◌*◌, ◌/◌, ◌%◌, ◌<◌, ◌≤◌, List, [], ◌∷◌, ◌++◌, length, get_or, take, set, arith, refl, ap, sym, ◌∙◌, length-append, length-set, ⊎_elim, subst}
 use Rattle.std.proofs.lemmas.List.{set-append_left, set-append_right, get_or_append_left, get_or-append_right, take-append-le, take_more, take_more_set, append_assoc, append-nil, length-take-le, get_or-take, get_or-set_same, get_or-set_other}
 use Rattle.peano_records.specs.declared.columns.Near.{Near}
 use Rattle.peano_records.specs.declared.columns.FourSlots.{FourSlots}
 use Rattle.peano_records.specs.declared.columns.More.{More}
 use Rattle.peano_records.specs.declared.stored.Stored.{Stored}
-use Rattle.peano_records.specs.Columns.{record_of}
+use Rattle.peano_records.specs.Columns.{record_of, four_of, far_of}
 use Rattle.std.proofs.lemmas.Bool.{cases_eq}
 use Rattle.peano_records.specs.declared.stored.Parcel.{Parcel}
 use Rattle.vertex_stacks.specs.Lists.{pages_for, parcel_of}
@@ -154,6 +154,14 @@ seen-set pages count i e page v w n h is =
 -- the record of one place, by what is read there
 pub read_records_of : (nears : List Near) (fars : List FourSlots) (mores : List More) (i : ℕ) (a : Near) (b : FourSlots) (c : More) (d : Stored) → length nears ≡ 64 → length fars ≡ 64 → length mores ≡ 64 → i < 64 → a ≡ get_or nears i a → b ≡ get_or fars i b → c ≡ get_or mores i c → record_of a b c ≡ get_or (records_of nears fars mores) i d
 read_records_of nears fars mores i a b c d hn hf hm h ea eb ec = sym (get_or-records_of nears fars mores i a b c d (omega (arith, hn, h)) (omega (arith, hf, h)) (omega (arith, hm, h)) ∙ (ap (λ x. record_of x (get_or fars i b) (get_or mores i c)) (sym ea) ∙ (ap (λ x. record_of a x (get_or mores i c)) (sym eb) ∙ ap (λ x. record_of a b x) (sym ec))))
+
+-- a record in columns has eight slots
+pub record_eight : (near : Near) (far : FourSlots) (more : More) → length (record_of near far more).slots ≡ 8
+record_eight near far more = by near.has_far
+  where
+    by : (b : Bool) → length (four_of near.has_more near.slots more.near ++ far_of b near.has_more far more.far) ≡ 8
+    by true = refl
+    by false = refl
 
 -- a parcel is its key and its slots
 pub parcel_is : (p : Parcel) (near : Near) (far : FourSlots) (more : More) → p.key ≡ near.key → p.slots ≡ (record_of near far more).slots → p ≡ parcel_of (record_of near far more)

@@ -5,7 +5,7 @@ ghost use Rattle.std.specs.Prelude.{◌≡◌, ℕ, ◌+◌, ◌*◌, ◌^◌, �
 ghost use Rattle.std.specs.Prelude.{IsOk, IsTrue, IsFalse, IfErr, OnOk, OnErr, IfSome, IsSomeAnd, All};
 ghost use Rattle.std.specs.Prelude.{[], ◌∷◌, ◌++◌, map, reverse, length, slice_set, slice_get};
 ghost use Rattle.peano_keys.specs.Dim.{axes};
-ghost use Rattle.peano_records.specs.Slots.{with_slot};
+ghost use Rattle.peano_records.specs.Slots.{slot_at, with_slot};
 ghost use Rattle.vertex_stacks.specs.Lists.{IsDrained, held, held_by, lane_at, lists_of, nothing_moved, pages_for, pages_live, pages_of, pages_used, parcel_of, places_of, room_of};
 ghost use Rattle.vertex_stacks.specs.Piles.{Reach, items_of};
 ghost use Rattle.vertex_stacks.specs.Tales.{capped, with_note};
@@ -14,7 +14,7 @@ use crate::kind::Kind;
 use crate::page::Pool;
 use crate::pile::Pile;
 use crate::tale::Tale;
-use peano_keys::Dim;
+use peano_keys::{Dim, VertexKey};
 use peano_records::{Parcel, Slot, Stored};
 use std::alloc::{AllocError, Global};
 use std::marker::Model;
@@ -635,6 +635,38 @@ impl Lanes {
         ensures six { length self.now.lanes ≡ 6 }
     {
         self.tale
+    }
+
+    /// How many vertices the input holds. Takes no memory.
+    pub fn input_count(&self) -> u64
+        ensures value { result ≡ length self.now.input }
+        ensures six { length self.now.lanes ≡ 6 }
+    {
+        self.input.len() as u64
+    }
+
+    /// The key of the vertex at a place of the input, in the order in which they will be taken.
+    /// Takes no memory.
+    pub fn key_at(&self, k: u64) -> VertexKey
+        requires { k < length self.now.input }
+        ensures key { IsSomeAnd (slice_get self.now.input k) (λ v. result ≡ v.key) }
+        ensures six { length self.now.lanes ≡ 6 }
+    {
+        let place = self.input.len() - 1 - k as usize;
+        self.input.key(place)
+    }
+
+    /// One slot of the vertex at a place of the input, in the order in which they will be taken.
+    /// Takes no memory.
+    pub fn slot_at(&self, k: u64, n: u32) -> Slot
+        requires place { k < length self.now.input }
+        requires slot { n < 8 }
+        ensures slot { IsSomeAnd (slice_get self.now.input k) (λ v. result ≡ slot_at v n) }
+        ensures eight { IsSomeAnd (slice_get self.now.input k) (λ v. length v.slots ≡ 8) }
+        ensures six { length self.now.lanes ≡ 6 }
+    {
+        let place = self.input.len() - 1 - k as usize;
+        self.input.slot(place, n)
     }
 
     /// The vertex at a place of the input, in the order in which they will be taken, as plain data.

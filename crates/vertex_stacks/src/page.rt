@@ -1,9 +1,10 @@
 //! Pages: 64 places for vertices, in columns, and the pool of free ones.
 ghost use Rattle.std.specs.Prelude.{◌≡◌, ◌+◌, ◌<◌, ◌≤◌, true, false, length, slice_index_or, slice_set, IfOk, OnOk, OnErr};
 ghost use Rattle.peano_records.specs.declared.stored.Stored.{Stored};
-ghost use Rattle.peano_records.specs.Slots.{with_slot};
+ghost use Rattle.peano_records.specs.Slots.{slot_at, with_slot};
 ghost use Rattle.vertex_stacks.specs.Lists.{parcel_of};
 
+use peano_keys::VertexKey;
 use peano_records::{FourSlots, More, Near, Parcel, Slot, Stored};
 use std::alloc::{AllocError, Global};
 use std::marker::Model;
@@ -72,6 +73,24 @@ impl Page {
         ensures eight { (d : Stored) → length (slice_index_or self.old place d).slots ≡ 8 }
     {
         self.near[place].set(&mut self.far[place], &mut self.more[place], n, slot);
+    }
+
+    /// The key of the vertex of a place.
+    pub(crate) fn key(&self, place: usize) -> VertexKey
+        requires { place < 64 }
+        ensures { (d : Stored) → result ≡ (slice_index_or self.now place d).key }
+    {
+        self.near[place].key
+    }
+
+    /// One slot of the vertex of a place.
+    pub(crate) fn slot(&self, place: usize, n: u32) -> Slot
+        requires place { place < 64 }
+        requires slot { n < 8 }
+        ensures value { (d : Stored) → result ≡ slot_at (slice_index_or self.now place d) n }
+        ensures eight { (d : Stored) → length (slice_index_or self.now place d).slots ≡ 8 }
+    {
+        self.near[place].slot(&self.far[place], &self.more[place], n)
     }
 
     /// The vertex of a place as plain data.

@@ -1,11 +1,12 @@
 //! Piles: lists of vertices in pages, which grow and shrink at their end.
 ghost use Rattle.std.specs.Prelude.{◌≡◌, ◌+◌, ◌/◌, ◌%◌, ◌<◌, ◌≤◌, true, false, [], ◌∷◌, ◌++◌, take, length, slice_index_or, slice_set, vec_len, vec_capacity, OnOk, IsTrue, ◌↔◌};
 ghost use Rattle.peano_records.specs.declared.stored.Stored.{Stored};
-ghost use Rattle.peano_records.specs.Slots.{with_slot};
+ghost use Rattle.peano_records.specs.Slots.{slot_at, with_slot};
 ghost use Rattle.vertex_stacks.specs.Lists.{pages_for, parcel_of};
 ghost use Rattle.vertex_stacks.specs.Piles.{AreWhole, flat};
 
 use crate::page::{Page, Pool};
+use peano_keys::VertexKey;
 use peano_records::{Parcel, Slot, Stored};
 use std::alloc::{AllocError, Global};
 use std::marker::Model;
@@ -145,6 +146,24 @@ impl Pile {
         ensures reach { self.new.reach ≡ self.old.reach }
     {
         self.pages[place / 64].set_slot(place % 64, n, slot);
+    }
+
+    /// The key of the vertex at a place, counted from the oldest.
+    pub(crate) fn key(&self, place: usize) -> VertexKey
+        requires { place < length self.now.items }
+        ensures { (d : Stored) → result ≡ (slice_index_or self.now.items place d).key }
+    {
+        self.pages[place / 64].key(place % 64)
+    }
+
+    /// One slot of the vertex at a place, counted from the oldest.
+    pub(crate) fn slot(&self, place: usize, n: u32) -> Slot
+        requires place { place < length self.now.items }
+        requires slot { n < 8 }
+        ensures value { (d : Stored) → result ≡ slot_at (slice_index_or self.now.items place d) n }
+        ensures eight { (d : Stored) → length (slice_index_or self.now.items place d).slots ≡ 8 }
+    {
+        self.pages[place / 64].slot(place % 64, n)
     }
 
     /// The vertex at a place, counted from the oldest, as plain data.

@@ -1,4 +1,4 @@
-use Rattle.std.proofs.Common.{◌≡◌, ◌≤◌, subst, sym, ◌∙◌, ap, refl, true, false}
+use Rattle.std.proofs.Common.{◌≤◌, subst, sym, ◌∙◌}
 use Rattle.std.specs.Option.{option_map}
 use Rattle.tree_automaton.proofs.Decided.{level_within}
 use Rattle.tree_automaton.proofs.Ways.{in_run, previous_found, previous_none, lane_found}

@@ -1,4 +1,4 @@
-use Rattle.std.proofs.Common.{◌≡◌, sym, ◌∙◌, ap, refl, true, false}
+use Rattle.std.proofs.Common.{sym, ◌∙◌}
 use Rattle.std.specs.Option.{option_map}
 use Rattle.tree_automaton.proofs.Ways.{in_run, next_found, next_none, lane_found}
 use Rattle.tree_automaton.proofs.decide.exit_of.Goals as goal

@@ -1,6 +1,6 @@
-use Rattle.std.proofs.Common.{sym, ◌∙◌, refl}
+use Rattle.std.proofs.Common.{sym, ◌∙◌}
 use Rattle.std.specs.Option.{option_map}
-use Rattle.tree_automaton.proofs.Entered.{read_none, read_some, no_record}
+use Rattle.tree_automaton.proofs.Entered.{read_none, read_some}
 use Rattle.tree_automaton.proofs.entering.read_cell.Goals as goal
 
 pub returns-then-not-is_old-clause-read : goal.returns-then-not-is_old-clause-read

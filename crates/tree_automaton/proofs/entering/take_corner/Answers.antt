@@ -1,20 +1,22 @@
-use Rattle.std.proofs.Common.{refl, ◌≡◌}
+use Rattle.std.proofs.Common.{refl}
 use Rattle.std.specs.Option.{option_map}
-use Rattle.tree_automaton.proofs.Takes.{lane_there, from_lane, from_input, made_new, left_hanging, none_made, only_lanes, none_moved, as_many_pages}
+use Rattle.tree_automaton.proofs.Takes.{lane_there, lane_gives, input_gives, made_new, left_hanging, only_lanes, none_moved, as_many_pages}
 use Rattle.tree_automaton.proofs.entering.take_corner.Goals as goal
 
 pub unreachable-requires : goal.unreachable-requires
 unreachable-requires c =
     let r = c.requires.asks in
-    lane_there r.0 r.1 r.2 c.args.course.now (option_map (λ v. v.now) c.args.parent) c.args.cell c.args.n c.args.store.now r.3 c.in-Lane.lane (c.in-Lane.ensures.value r.0.sweep r.3.decides) (c.in-None.ensures.none refl).0
+    lane_there r.0 r.1 r.2 c.args.course.now (option_map (λ v. v.now) c.args.parent) c.args.cell c.args.n c.args.store.now r.3 c.in-Lane.lane (c.in-Lane.ensures.value r.0.sweep r.3.decides) (c.pop.ensures.none c.if-not-pop.true)
 
-pub returns-in-Some-clause-taken : goal.returns-in-Some-clause-taken
-returns-in-Some-clause-taken c = λ m made more asks.
-    from_lane m made more c.args.course.now (option_map (λ v. v.now) c.args.parent) c.args.cell c.args.n c.args.store.now asks c.in-Lane.lane c.pop.new.self c.in-Some.v (c.in-Lane.ensures.value m.sweep asks.decides) c.in-Some.ensures.last c.in-Some.ensures.others
+pub returns-else-not-pop-clause-taken : goal.returns-else-not-pop-clause-taken
+returns-else-not-pop-clause-taken c = λ m made more asks.
+    let last = c.pop.ensures.last c.if-not-pop.false in
+    lane_gives m made more c.args.course.now (option_map (λ v. v.now) c.args.parent) c.args.cell c.args.n c.args.store.now asks c.in-Lane.lane c.pop.new.store last.0 c.pop.new.corner last.1 (c.in-Lane.ensures.value m.sweep asks.decides) last.2 (c.pop.ensures.others c.if-not-pop.false)
 
-pub returns-in-Some-take_input-clause-taken : goal.returns-in-Some-take_input-clause-taken
-returns-in-Some-take_input-clause-taken c = λ m made more asks.
-    from_input m made more c.args.course.now (option_map (λ v. v.now) c.args.parent) c.args.cell c.args.n c.args.store.now asks c.take_input.new.self c.in-Some-take_input.v (c.in-Input.ensures.value m.sweep asks.decides) c.in-Some-take_input.ensures.first c.in-Some-take_input.ensures.others
+pub returns-else-not-take_input-clause-taken : goal.returns-else-not-take_input-clause-taken
+returns-else-not-take_input-clause-taken c = λ m made more asks.
+    let first = c.take_input.ensures.first c.if-not-take_input.false in
+    input_gives m made more c.args.course.now (option_map (λ v. v.now) c.args.parent) c.args.cell c.args.n c.args.store.now asks c.take_input.new.store first.0 c.take_input.new.corner first.1 (c.in-Input.ensures.value m.sweep asks.decides) first.2 (c.take_input.ensures.others c.if-not-take_input.false)
 
 pub returns-in-Made-clause-taken : goal.returns-in-Made-clause-taken
 returns-in-Made-clause-taken c = λ m made more asks.
@@ -24,11 +26,11 @@ pub returns-in-Hanging-clause-taken : goal.returns-in-Hanging-clause-taken
 returns-in-Hanging-clause-taken c = λ m made more asks.
     left_hanging m made more c.args.course.now (option_map (λ v. v.now) c.args.parent) c.args.cell c.args.n c.args.store.now asks c.corner-in-Hanging.result (c.in-Hanging.ensures.value m.sweep asks.decides) c.corner-in-Hanging.ensures.value
 
-pub returns-in-Some-clause-others : goal.returns-in-Some-clause-others
-returns-in-Some-clause-others c = only_lanes c.args.store.now c.pop.new.self _ c.in-Some.ensures.others refl refl (as_many_pages _ _ c.pop.ensures.pages)
+pub returns-else-not-pop-clause-others : goal.returns-else-not-pop-clause-others
+returns-else-not-pop-clause-others c = only_lanes c.args.store.now c.pop.new.store _ (c.pop.ensures.others c.if-not-pop.false) refl refl (as_many_pages _ _ c.pop.ensures.pages)
 
-pub returns-in-Some-take_input-clause-others : goal.returns-in-Some-take_input-clause-others
-returns-in-Some-take_input-clause-others c = only_lanes c.args.store.now c.take_input.new.self _ c.in-Some-take_input.ensures.others refl refl (as_many_pages _ _ c.take_input.ensures.pages)
+pub returns-else-not-take_input-clause-others : goal.returns-else-not-take_input-clause-others
+returns-else-not-take_input-clause-others c = only_lanes c.args.store.now c.take_input.new.store _ (c.take_input.ensures.others c.if-not-take_input.false) refl refl (as_many_pages _ _ c.take_input.ensures.pages)
 
 pub returns-in-Made-clause-others : goal.returns-in-Made-clause-others
 returns-in-Made-clause-others c = none_moved c.args.store.now

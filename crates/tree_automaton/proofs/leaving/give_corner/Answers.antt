@@ -11,16 +11,16 @@ use Rattle.tree_automaton.proofs.Gives.{to_a_lane, to_the_output, given_up, was_
 use Rattle.tree_automaton.proofs.leaving.give_corner.Goals as goal
 
 pub returns-in-Lane-clause-given : goal.returns-in-Lane-clause-given
-returns-in-Lane-clause-given c = on_ok c.push.result (λ is m made more given.
+returns-in-Lane-clause-given c = on_ok c.push_from.result (λ is m made more given.
     let asks = subst (λ k. GiveAsks m made more c.args.course.now (option_map (λ v. v.now) c.args.parent) c.args.cell c.args.n k c.args.store.now) c.in-Vertex.is given in
     let goes = c.in-Lane.ensures.value m.sweep asks.decides (is_kept_here m made more c.args.course.now (option_map (λ v. v.now) c.args.parent) c.args.cell c.args.n c.args.store.now c.in-Vertex.v asks c.requires.cell c.requires.corner) in
-    to_a_lane m made more c.args.course.now (option_map (λ v. v.now) c.args.parent) c.args.cell c.args.n c.args.store.now c.in-Vertex.v asks c.requires.cell c.requires.corner c.in-Lane.lane c.push.new.self (lane_below_six c.args.course.now.dim c.in-Lane.lane c.in-Lane.ensures.lane) goes is) c.push.ensures.ok
+    to_a_lane m made more c.args.course.now (option_map (λ v. v.now) c.args.parent) c.args.cell c.args.n c.args.store.now c.in-Vertex.v asks c.requires.cell c.requires.corner c.in-Lane.lane c.push_from.new.self (lane_below_six c.args.course.now.dim c.in-Lane.lane c.in-Lane.ensures.lane) goes is) c.push_from.ensures.ok
 
 pub returns-in-Output-clause-given : goal.returns-in-Output-clause-given
-returns-in-Output-clause-given c = on_ok c.put_output.result (λ is m made more given.
+returns-in-Output-clause-given c = on_ok c.put_output_from.result (λ is m made more given.
     let asks = subst (λ k. GiveAsks m made more c.args.course.now (option_map (λ v. v.now) c.args.parent) c.args.cell c.args.n k c.args.store.now) c.in-Vertex.is given in
     let goes = c.in-Output.ensures.value m.sweep asks.decides (is_kept_here m made more c.args.course.now (option_map (λ v. v.now) c.args.parent) c.args.cell c.args.n c.args.store.now c.in-Vertex.v asks c.requires.cell c.requires.corner) in
-    to_the_output m made more c.args.course.now (option_map (λ v. v.now) c.args.parent) c.args.cell c.args.n c.args.store.now c.in-Vertex.v asks c.requires.cell c.requires.corner c.put_output.new.self goes is) c.put_output.ensures.ok
+    to_the_output m made more c.args.course.now (option_map (λ v. v.now) c.args.parent) c.args.cell c.args.n c.args.store.now c.in-Vertex.v asks c.requires.cell c.requires.corner c.put_output_from.new.self goes is) c.put_output_from.ensures.ok
 
 pub returns-in-GivenUp-clause-given : goal.returns-in-GivenUp-clause-given
 returns-in-GivenUp-clause-given c = λ m made more given.
@@ -28,19 +28,19 @@ returns-in-GivenUp-clause-given c = λ m made more given.
     given_up m made more c.args.course.now (option_map (λ v. v.now) c.args.parent) c.args.cell c.args.n c.args.store.now c.in-Vertex.v asks c.requires.cell c.requires.corner (c.in-GivenUp.ensures.value m.sweep asks.decides (is_kept_here m made more c.args.course.now (option_map (λ v. v.now) c.args.parent) c.args.cell c.args.n c.args.store.now c.in-Vertex.v asks c.requires.cell c.requires.corner))
 
 pub returns-in_default-clause-given : goal.returns-in_default-clause-given
-returns-in_default-clause-given c = λ m made more asks. was_hanging m made more c.args.course.now (option_map (λ v. v.now) c.args.parent) c.args.cell c.args.n c.args.store.now c.args.given c.in_default.not-Vertex c.requires.cell c.requires.corner asks
+returns-in_default-clause-given c = λ m made more asks. was_hanging m made more c.args.course.now (option_map (λ v. v.now) c.args.parent) c.args.cell c.args.n c.args.store.now c.args.given.now c.in_default.not-Vertex c.requires.cell c.requires.corner asks
 
 pub returns-in-Lane-clause-others : goal.returns-in-Lane-clause-others
-returns-in-Lane-clause-others c = either_way c.push.result (λ is. only_lanes c.args.store.now c.push.new.self _ is refl refl c.push.ensures.pages) (λ is. subst (MovesVertices c.args.store.now) (sym is) (none_moved c.args.store.now)) c.push.ensures.ok c.push.ensures.err
+returns-in-Lane-clause-others c = either_way c.push_from.result (λ is. only_lanes c.args.store.now c.push_from.new.self _ is refl refl c.push_from.ensures.pages) (λ is. subst (MovesVertices c.args.store.now) (sym is) (none_moved c.args.store.now)) c.push_from.ensures.ok c.push_from.ensures.err
 
 pub returns-in-Lane-clause-memory : goal.returns-in-Lane-clause-memory
-returns-in-Lane-clause-memory c = λ room. let one : vertex_part c.args.given ≡ 1 = ap vertex_part c.in-Vertex.is in c.push.ensures.room (omega (arith, ints, one, room))
+returns-in-Lane-clause-memory c = λ room. let one : vertex_part c.args.given.now ≡ 1 = ap vertex_part c.in-Vertex.is in c.push_from.ensures.room (omega (arith, ints, one, room))
 
 pub returns-in-Output-clause-others : goal.returns-in-Output-clause-others
-returns-in-Output-clause-others c = either_way c.put_output.result (λ is. only_lanes c.args.store.now c.put_output.new.self _ is refl refl c.put_output.ensures.pages) (λ is. subst (MovesVertices c.args.store.now) (sym is) (none_moved c.args.store.now)) c.put_output.ensures.ok c.put_output.ensures.err
+returns-in-Output-clause-others c = either_way c.put_output_from.result (λ is. only_lanes c.args.store.now c.put_output_from.new.self _ is refl refl c.put_output_from.ensures.pages) (λ is. subst (MovesVertices c.args.store.now) (sym is) (none_moved c.args.store.now)) c.put_output_from.ensures.ok c.put_output_from.ensures.err
 
 pub returns-in-Output-clause-memory : goal.returns-in-Output-clause-memory
-returns-in-Output-clause-memory c = λ room. let one : vertex_part c.args.given ≡ 1 = ap vertex_part c.in-Vertex.is in c.put_output.ensures.room (omega (arith, ints, one, room))
+returns-in-Output-clause-memory c = λ room. let one : vertex_part c.args.given.now ≡ 1 = ap vertex_part c.in-Vertex.is in c.put_output_from.ensures.room (omega (arith, ints, one, room))
 
 pub returns-in-GivenUp-clause-spare : goal.returns-in-GivenUp-clause-spare
 returns-in-GivenUp-clause-spare c = omega (arith, ints)

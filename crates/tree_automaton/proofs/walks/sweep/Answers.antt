@@ -1,10 +1,11 @@
-use Rattle.std.proofs.Common.{◌≡◌, [], length, ◌≤◌, sym, subst, ◌∙◌, ap, arith}
+use Rattle.std.proofs.Common.{◌≡◌, [], length, ◌+◌, ◌≤◌, sym, subst, ◌∙◌, ap, arith}
 use Rattle.std.specs.Prelude.{None, IsOk}
 use Rattle.std.proofs.lemmas.Bool.{false≢true}
+use Rattle.tree_automaton.specs.Views.{HavePlaces}
 use Rattle.tree_automaton.specs.TreeLists.{TreeLists, IsRoomy, page_count, room_in}
 use Rattle.vertex_stacks.specs.Lists.{held}
 use Rattle.tree_automaton.specs.Sweep.{cell_visits}
-use Rattle.tree_automaton.specs.Sweeps.{SweepGives, VisitsGive, WalkAsks}
+use Rattle.tree_automaton.specs.Sweeps.{VisitsGive, WalkAsks}
 use Rattle.tree_automaton.proofs.Results.{on_err}
 use Rattle.tree_automaton.proofs.Swept.{start, walk_asks, has_room, drained, all_read, swept, held_is_stored, roomy_after}
 use Rattle.tree_automaton.proofs.Rests.{next_at_rest}
@@ -53,3 +54,9 @@ returns-clause-roomy g c = λ p asks plain few.
     (subst (λ (z : TreeLists). z.stored ≤ room_in z.lanes.dim (page_count c.reserve.new.self.lanes)) c.stop.ensures (c.in_ok-reserve.ensures.room (subst (λ (z : TreeLists). held z.lanes ≤ z.stored) (sym c.stop.ensures) (held_is_stored p c.args.store.now asks.rest few))))
     (let a = c.walk.ensures.tree.pages in let b = c.turn.ensures.pages in omega (arith, a, b))
     (ap (λ z. z.lanes.dim) c.turn.ensures.lists ∙ (c.walk.ensures.tree.dim ∙ lanes)) all.stored all.flags
+
+pub walk-requires-clause-place : goal.walk-requires-clause-place
+walk-requires-clause-place g c = c.blank_view-view.ensures c.reserve.new.self.lanes.dim
+
+pub walk-requires-clause-places : goal.walk-requires-clause-places
+walk-requires-clause-places g c = subst (λ q. HavePlaces c.reserve.new.self.lanes.dim (q.level + 1) c.blank_views-below.result) (sym c.root.ensures) (c.blank_views-below.ensures c.reserve.new.self.lanes.dim)

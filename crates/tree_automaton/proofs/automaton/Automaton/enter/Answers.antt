@@ -1,33 +1,4 @@
-use Rattle.std.proofs.Common.{sym, ◌∙◌, ap, refl, subst}
-use Rattle.std.specs.Option.{option_map}
-use Rattle.tree_automaton.proofs.Entered.{decides, moved, to_move, read_asks, corners_ask, are_taken, entered}
-use Rattle.tree_automaton.proofs.Rooms.{same_again, tree_read, tree_moved}
 use Rattle.tree_automaton.proofs.automaton.Automaton.enter.Goals as goal
 
-pub read_cell-was-requires : goal.read_cell-was-requires
-read_cell-was-requires c =
-    let r = c.requires.asks in
-    record { asks = (r.0, r.1, r.2, read_asks r.0 r.1 r.2 (option_map (λ v. v.now) c.args.parent) c.args.cell c.args.kind c.args.store.now c.course-course.result c.course-course.ensures r.3) }
-
-pub take_corners-corners-requires-clause-asks : goal.take_corners-corners-requires-clause-asks
-take_corners-corners-requires-clause-asks c =
-    let r = c.requires.asks in
-    let gives = c.read_cell-was.ensures.read r.0 r.1 r.2 (read_asks r.0 r.1 r.2 (option_map (λ v. v.now) c.args.parent) c.args.cell c.args.kind c.args.store.now c.course-course.result c.course-course.ensures r.3) in
-    (r.0, moved r.0 r.1 r.2 (option_map (λ v. v.now) c.args.parent) c.args.cell c.args.kind c.args.store.now c.course-course.result c.course-course.ensures r.3, to_move r.0 r.1 r.2 (option_map (λ v. v.now) c.args.parent) c.args.cell c.args.kind c.args.store.now c.course-course.result c.course-course.ensures r.3, corners_ask r.0 r.1 r.2 (option_map (λ v. v.now) c.args.parent) c.args.cell c.args.kind c.args.store.now c.course-course.result c.course-course.ensures r.3 c.read_cell-was.new.store c.read_cell-was.result.0 c.read_cell-was.result.1 gives c.read_cell-was.ensures.others)
-
-pub sides_here-sides-requires-clause-asks : goal.sides_here-sides-requires-clause-asks
-sides_here-sides-requires-clause-asks c = let r = c.requires.asks in (r.0.sweep, decides r.0 r.1 r.2 (option_map (λ v. v.now) c.args.parent) c.args.cell c.args.kind c.args.store.now c.course-course.result c.course-course.ensures r.3)
-
-pub carried_here-requires-clause-asks : goal.carried_here-requires-clause-asks
-carried_here-requires-clause-asks c = let r = c.requires.asks in (r.0.sweep, decides r.0 r.1 r.2 (option_map (λ v. v.now) c.args.parent) c.args.cell c.args.kind c.args.store.now c.course-course.result c.course-course.ensures r.3)
-
-pub returns-clause-entered : goal.returns-clause-entered
-returns-clause-entered c = λ m made more asks.
-    let gives = c.read_cell-was.ensures.read m made more (read_asks m made more (option_map (λ v. v.now) c.args.parent) c.args.cell c.args.kind c.args.store.now c.course-course.result c.course-course.ensures asks) in
-    let taken = c.take_corners-corners.ensures.taken m (moved m made more (option_map (λ v. v.now) c.args.parent) c.args.cell c.args.kind c.args.store.now c.course-course.result c.course-course.ensures asks) (to_move m made more (option_map (λ v. v.now) c.args.parent) c.args.cell c.args.kind c.args.store.now c.course-course.result c.course-course.ensures asks) (corners_ask m made more (option_map (λ v. v.now) c.args.parent) c.args.cell c.args.kind c.args.store.now c.course-course.result c.course-course.ensures asks c.read_cell-was.new.store c.read_cell-was.result.0 c.read_cell-was.result.1 gives c.read_cell-was.ensures.others) in
-    let d = decides m made more (option_map (λ v. v.now) c.args.parent) c.args.cell c.args.kind c.args.store.now c.course-course.result c.course-course.ensures asks in
-    let all = are_taken m made more (option_map (λ v. v.now) c.args.parent) c.args.cell c.args.kind c.args.store.now c.course-course.result c.course-course.ensures asks c.read_cell-was.new.store c.read_cell-was.result.0 c.read_cell-was.result.1 gives c.read_cell-was.ensures.others c.take_corners-corners.new.store c.take_corners-corners.result c.take_corners-corners.ensures.eight taken c.take_corners-corners.ensures.others in
-    entered m made more (option_map (λ v. v.now) c.args.parent) c.args.cell c.args.kind c.args.store.now c.course-course.result c.course-course.ensures asks c.read_cell-was.new.store c.read_cell-was.result.0 c.read_cell-was.result.1 gives c.read_cell-was.ensures.others c.take_corners-corners.new.store c.take_corners-corners.result c.take_corners-corners.ensures.eight taken c.take_corners-corners.ensures.others c.take_corners-corners.ensures.beyond _ refl refl c.first_will.ensures refl refl (λ plain. c.sides_here-sides.ensures m d plain all) (λ plain below. c.carried_here.ensures m.sweep d plain below)
-
-pub returns-clause-tree : goal.returns-clause-tree
-returns-clause-tree c = same_again c.args.store.now c.read_cell-was.new.store c.take_corners-corners.new.store (tree_read c.args.store.now c.read_cell-was.new.store c.read_cell-was.ensures.others) (tree_moved c.read_cell-was.new.store c.take_corners-corners.new.store c.take_corners-corners.ensures.others)
+pub enter_into-requires-clause-place : goal.enter_into-requires-clause-place
+enter_into-requires-clause-place c = c.blank_view-view.ensures c.args.store.now.lanes.dim

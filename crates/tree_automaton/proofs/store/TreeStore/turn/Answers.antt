@@ -1,6 +1,6 @@
-use Rattle.std.proofs.Common.{refl, sym, ap, ◌∙◌, subst, arith}
+use Rattle.std.proofs.Common.{ap, ◌∙◌}
 use Rattle.tree_automaton.specs.TreeLists.{TreeLists, page_count}
-use Rattle.tree_automaton.proofs.Pages.{same_pages, more_pages}
+use Rattle.tree_automaton.proofs.Pages.{same_pages}
 use Rattle.tree_automaton.proofs.store.TreeStore.turn.Goals as goal
 
 pub returns-clause-pages : goal.returns-clause-pages
