@@ -43,7 +43,7 @@ second_is_record w v r says = record {
 }
 
 -- a record at rest says so
-says_rest : (g : Spacetree) (f : States) (v : VertexKey) (r : VertexRecord) → r.key ≡ v → IsAtRest g f r → Says g.dim v (AtRest g (value_of g f)) r
+pub says_rest : (g : Spacetree) (f : States) (v : VertexKey) (r : VertexRecord) → r.key ≡ v → IsAtRest g f r → Says g.dim v (AtRest g (value_of g f)) r
 says_rest g f v r key h = record {
   key = key;
   eight = h.eight;

@@ -168,7 +168,7 @@ pub raise_sweep : RaiseSweep
 raise_sweep k g f t store raised = λ v has. swept_says k v Nothing (AfterRaise k g f t) (RaiseChanges k g f t) (fresh k.dim v) (store v) (fresh_says k.dim v) (raised v has) (λ n c below at p e. record { status = e.status; own = record { status = λ owns. e.status; value = e.value } })
 
 -- what slots say says less, too
-says_less : (k : Cuts) (v : VertexKey) (P Q : CellKey → Slot → Type 0) (r : VertexRecord) → ((c : CellKey) (s : Slot) → P c s → Q c s) → Says k.dim v P r → Says k.dim v Q r
+pub says_less : (k : Cuts) (v : VertexKey) (P Q : CellKey → Slot → Type 0) (r : VertexRecord) → ((c : CellKey) (s : Slot) → P c s → Q c s) → Says k.dim v P r → Says k.dim v Q r
 says_less k v P Q r less says = record { key = says.key; eight = says.eight; outside = says.outside; inside = λ n c below at. less c (slot_at r n) (says.inside n c below at); idle = says.idle; unused = says.unused }
 
 pub start_rests : StartRests

@@ -37,7 +37,7 @@ by_places P l (Some x) None c f = tt
 by_places P l (Some x) (Some y) None f = tt
 
 -- a cell at a position tells its number
-position_is : (dim : Dim) (v : VertexKey) (n : ℕ) → n < corners dim → IfSome (adjacent_of dim v n) (λ q. position dim v q ≡ n)
+pub position_is : (dim : Dim) (v : VertexKey) (n : ℕ) → n < corners dim → IfSome (adjacent_of dim v n) (λ q. position dim v q ≡ n)
 position_is Two v n h = by_places (λ q. position Two v q ≡ n) v.level _ _ _ (λ x y z hx hy hz.
     let a = moved_back (plane v 0) (bit_of n 0) (3 ^ v.level) x hx in
     let b = moved_back (plane v 1) (bit_of n 1) (3 ^ v.level) y hy in
