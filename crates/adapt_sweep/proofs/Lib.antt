@@ -1,0 +1,13 @@
+pub mod Views
+pub mod Raised
+pub mod Slots
+pub mod Corners
+pub mod Adapted
+pub mod Outputs
+pub mod RaisedTrees
+pub mod Arrived
+pub mod Calls
+pub mod Found
+pub mod Changed
+pub mod Trees
+pub mod Alone

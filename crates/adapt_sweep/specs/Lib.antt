@@ -1,0 +1,7 @@
+pub mod Own
+pub mod Lone
+pub mod Noted
+pub mod Raises
+pub mod Raising
+pub mod Adapts
+pub mod Adapting

@@ -1,0 +1,58 @@
+//! Which cells a tree owns, and the status and the value of a cell.
+ghost use Rattle.std.specs.Prelude.{◌≡◌, ◌↔◌, ◌-◌, ◌<◌, IsTrue};
+ghost use Rattle.peano_keys.specs.Dim.{corners};
+ghost use Rattle.peano_keys.specs.Cell.{IsCell};
+ghost use Rattle.peano_keys.specs.Field.{value_of};
+ghost use Rattle.peano_records.specs.AtRest.{status_of};
+ghost use Rattle.curve_cuts.specs.Keys.{cuts_of};
+ghost use Rattle.adapt_sweep.specs.Own.{IsOwn};
+
+use curve_cuts::Keys;
+use peano_keys::{CellKey, Dim, State, child};
+use peano_records::Status;
+use spacetree::{Field, Grid};
+
+// Whether a tree owns a cell: its range has the cell's centre.
+pub(crate) fn is_own(keys: &Keys, tree: u32, cell: CellKey) -> bool
+    requires cell { IsCell keys.now.dim cell }
+    requires tree { tree < (cuts_of keys.now).trees }
+    ensures { IsTrue result ↔ IsOwn (cuts_of keys.now) tree cell }
+{
+    cell.level <= keys.depth() && keys.owns(cell, tree)
+}
+
+// The value of a cell: its state where it is a leaf, else the value of its centre child.
+pub(crate) fn value(grid: &Grid, field: &Field, key: CellKey) -> State
+    requires { IsCell grid.now.dim key }
+    ensures { result ≡ value_of grid.now field.now key }
+{
+    if key.level == 12 || !grid.is_refined(&key) {
+        return field.get(&key).unwrap_or(State::Single(0));
+    }
+    let third = match grid.dim() {
+        Dim::Two => 0,
+        Dim::Three => 1,
+    };
+    value(grid, field, child(key, [1, 1, third]))
+}
+
+// The status of a cell.
+pub(crate) fn status(refined: bool) -> Status
+    ensures { result ≡ status_of refined }
+{
+    if refined {
+        Status::Refined
+    } else {
+        Status::Leaf
+    }
+}
+
+// How many corners a cell has, and so many positions a vertex.
+pub(crate) fn corner_count(dim: Dim) -> u32
+    ensures { result ≡ corners dim }
+{
+    match dim {
+        Dim::Two => 4,
+        Dim::Three => 8,
+    }
+}
