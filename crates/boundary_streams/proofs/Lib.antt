@@ -1,0 +1,9 @@
+pub mod Mail
+pub mod Holders
+pub mod Written
+pub mod Sends
+pub mod Merges
+pub mod Progress
+pub mod Stored
+pub mod Found
+pub mod Agrees

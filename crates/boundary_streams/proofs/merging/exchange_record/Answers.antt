@@ -1,0 +1,14 @@
+use Rattle.std.proofs.Common.{◌≡◌, suc, ◌+◌, arith}
+use Rattle.std.specs.Prelude.{None, slice_index_or}
+use Rattle.boundary_streams.proofs.Written.{one_more, all_written}
+use Rattle.boundary_streams.proofs.merging.exchange_record.Goals as goal
+
+pub loop-n-preserved : goal.loop-n-preserved
+loop-n-preserved c =
+    let e : c.loop-n.n + 1 ≡ suc c.loop-n.n = omega arith in
+    one_more c.args.phase c.args.k (λ n. slice_index_or c.args.found.now n None) c.args.store.now c.requires.place c.loop-n.n (c.loop-n.n + 1) c.loop-n.store c.exchange_slot.new.store e c.loop-n.invariant c.exchange_slot.ensures
+
+pub returns : goal.returns
+returns c =
+    let e : c.loop-n.n ≡ 8 = omega arith in
+    all_written c.args.phase c.args.k (λ n. slice_index_or c.args.found.now n None) c.args.store.now c.requires.place c.loop-n.store c.loop-n.n e c.loop-n.invariant

@@ -1,0 +1,10 @@
+pub mod Sent
+pub mod Holders
+pub mod Trees
+pub mod Collects
+pub mod Merges
+pub mod Exchanges
+pub mod Laws
+pub mod Sendings
+pub mod Mails
+pub mod Records
