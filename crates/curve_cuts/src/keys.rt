@@ -140,6 +140,16 @@ impl Keys {
         self.tree_of(centre(self.dim, cell, self.depth))
     }
 
+    /// Whether a tree owns a cell: its range has the cell's centre.
+    pub fn owns(&self, cell: CellKey, tree: u32) -> bool
+        requires cell { IsCell self.now.dim cell }
+        requires level { cell.level ≤ self.now.depth }
+        requires tree { tree < (cuts_of self.now).trees }
+        ensures { IsTrue result ↔ Owns (cuts_of self.now) tree cell }
+    {
+        self.range(tree).holds(centre(self.dim, cell, self.depth))
+    }
+
     /// Whether a tree holds a cell: the cell's interval meets the tree's range.
     pub fn held(&self, cell: CellKey, tree: u32) -> bool
         requires cell { IsCell self.now.dim cell }

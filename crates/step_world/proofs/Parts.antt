@@ -60,7 +60,7 @@ module _ (parts : ℕ) (g : Spacetree) (f : States) (grid : IsGrid 12 g) (field 
     sides_have : (up : Bool) → SidesHave parts (sides_on g f c up)
     sides_have up = record { first = face_has 0 up (omega (arith, two_axes g.dim)); second = face_has 1 up (two_axes g.dim); third = third_has g.dim up refl }
 
-  leaf_has : (c : CellKey) → IsLeafOf g c → HaveParts parts (state_at f c) (sides_of g f c)
+  pub leaf_has : (c : CellKey) → IsLeafOf g c → HaveParts parts (state_at f c) (sides_of g f c)
   leaf_has c leaf = record { itself = count_at_leaf parts g f c field leaf; low = sides_have c leaf.cell false; high = sides_have c leaf.cell true }
 
 if_none : (o : Option State) (P : State → Type 0) → o ≡ None → IfSome o P

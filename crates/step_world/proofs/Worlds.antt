@@ -58,7 +58,7 @@ kept_grid_stays g new marks keeps next = grid_is new g next.dim (λ c. both_ways
     (λ h. (next.refined c).1 (inr (h, λ (m : Merges g marks c). keep_coarsen (marks (child_of c (centre_digits g.dim))) (keeps (child_of c (centre_digits g.dim))) (m.marked (centre_digits g.dim) (centre_is_digits g.dim))))))
 
 -- a grid for trees is one of the deepest level
-deep_grid : (k : Cuts) (g : Spacetree) → IsCutGrid k g → IsGrid 12 g
+pub deep_grid : (k : Cuts) (g : Spacetree) → IsCutGrid k g → IsGrid 12 g
 deep_grid k g fits = record { cells = fits.grid.cells; levels = λ c h. omega (arith, fits.grid.levels c h, fits.deepest); parents = fits.grid.parents }
 
 pub start_stands : StartStands

@@ -1,0 +1,50 @@
+-- What the sweeps of a step make of a tree's store.
+use Rattle.std.specs.Prelude.{◌≡◌, ℕ, ◌<◌, length}
+use Rattle.peano_keys.specs.Grid.{Spacetree}
+use Rattle.peano_keys.specs.Field.{States}
+use Rattle.peano_curve.specs.declared.order.Direction.{Direction}
+use Rattle.spacetree.specs.Fields.{IsFieldOn}
+use Rattle.curve_cuts.specs.Cuts.{Cuts, IsCutGrid, range_of}
+use Rattle.vertex_stacks.specs.declared.kind.Kind.{Kind}
+use Rattle.vertex_stacks.specs.declared.kind.Kind.TheVariants.{Primary as primary}
+use Rattle.vertex_stacks.specs.declared.tale.Tale.{Tale}
+use Rattle.vertex_stacks.specs.Notes.{Note}
+use Rattle.vertex_stacks.specs.Tales.{capped, with_note}
+use Rattle.sweep_visits.specs.Plan.{SweepPlan}
+use Rattle.sweep_visits.specs.Runs.{turned_round}
+use Rattle.sweep_visits.specs.Moves.{moves_of, taken_by, put_by}
+use Rattle.sweep_streams.specs.Counts.{pushed_by}
+use Rattle.tree_automaton.specs.TreeLists.{TreeLists}
+use Rattle.tree_automaton.specs.AtRest.{StandsFor, plain_plan}
+use Rattle.step_phases.specs.Change.{Change}
+use Rattle.step_phases.specs.Sweeps.{IsSwept, PrimaryChanges}
+use Rattle.step_world.specs.Failing.{FailsInTree}
+use Rattle.swept_slots.specs.Copies.{copies}
+use Rattle.step_sweeps.specs.declared.tally.Tally.{Tally}
+use Rattle.step_sweeps.specs.Kernels.{Kernel, IsChangeBy}
+use Rattle.step_sweeps.specs.Primaries.{every_leaf}
+
+-- a store of one of the trees of some cuts stands for a grid and a field whose states have so many values
+pub record StandsOn (k : Cuts) (parts : ℕ) (dir : Direction) (g : Spacetree) (f : States) (s : TreeLists) : Type 0 where
+  pub grid : IsCutGrid k g
+  pub field : IsFieldOn parts g f
+  pub tree : s.tree < k.trees
+  pub stands : StandsFor k.depth (range_of k s.tree) s.tree dir g f s
+
+-- for some grid and field
+abbrev pub CanStep : Cuts → ℕ → TreeLists → Type 0
+CanStep k parts s = (dir : Direction) × (g : Spacetree) × (f : States) × StandsOn k parts dir g f s
+
+-- the note of a sweep counts what its plan moves, and stands in the tale
+pub record IsNoted (p : SweepPlan) (step : ℕ) (kind : Kind) (t : ℕ) (before after : Tale) (note : Note) : Type 0 where
+  pub note_is : note ≡ record { step = step; kind = kind; tree = t; taken = capped (length (taken_by (moves_of p))); put = capped (length (put_by (moves_of p))); pushed = capped (length (pushed_by (moves_of p))) }
+  pub tale : after ≡ with_note before note
+
+-- A primary sweep leaves a store that stands for the same grid and field, to be read the other way. In the copies of the tree each leaf that it owns has its mark,
+-- and its new value where it has one, whatever else a change by the kernel is; the least leaf that has none is told.
+pub record IsPrimarySwept (kernel : Kernel) (k : Cuts) (dir : Direction) (g : Spacetree) (f : States) (step : ℕ) (s t : TreeLists) (note : Note) (tally : Tally) : Type 0 where
+  pub tree : t.tree ≡ s.tree
+  pub stands : StandsOn k kernel.parts (turned_round dir) g f t
+  pub slots : (w : Change) → IsChangeBy kernel g f w → IsSwept k g s.tree (PrimaryChanges k w every_leaf s.tree) (copies s.lanes.input) (copies t.lanes.input)
+  pub failing : FailsInTree k kernel.updated g f s.tree tally.failing
+  pub noted : IsNoted (plain_plan k.depth (range_of k s.tree) dir g) step primary s.tree s.lanes.tale t.lanes.tale note

@@ -1,0 +1,16 @@
+//! The visitors of the sweeps of a step that change no grid: the primary sweep gives leaves their marks and their new
+//! states, the secondary sweep finishes the step with what the other trees sent.
+#![tactic(auto)]
+
+mod centre;
+mod leaf;
+mod primary;
+mod secondary;
+mod sweeps;
+mod tally;
+mod told;
+
+pub use primary::Primary;
+pub use secondary::Secondary;
+pub use sweeps::primary_tree;
+pub use tally::Tally;
