@@ -38,7 +38,7 @@ module _ (k : Cuts) (w : Change) (t : ℕ) (c : CellKey) (old new : Slot) (h : B
   intent_by true e owns = h.left.intent owns e
   intent_by false e owns = subst (λ (s : Slot). IsIntentOf w.old w.mark c s.intent) (sym (h.left.kept (λ r. false≢true (sym e ∙ r)))) (h.entered.intent owns e)
 
-  secondary_at : SecondaryChanges k w t c old new
+  pub secondary_at : SecondaryChanges k w t c old new
   secondary_at = record {
     status = h.left.status ∙ h.entered.status;
     value = h.left.value ∙ h.entered.value;
@@ -66,10 +66,10 @@ module _ (dim : Dim) (s : Calls) (told : ℕ → Bool) (memo : ℕ → ℕ → B
       let e : a + suc d ≡ a + d + 1 = omega arith in
       ap (λ i. memo i l) e ∙ rule.keep (a + d) l (omega (arith, h)) (none (a + d) (omega arith) (omega arith)) ∙ stands l a d (omega (arith, h)) (λ m low high. none m low (omega (arith, high)))
 
-own_parent : (dim : Dim) (p : CellKey) → IsCell dim p → parent_of (centre_child dim p) ≡ p
+pub own_parent : (dim : Dim) (p : CellKey) → IsCell dim p → parent_of (centre_child dim p) ≡ p
 own_parent dim p cell = let d = centre_is_digits dim in parent_of_child p (centre_digits dim) cell.shape d.first d.second (third_digit dim (centre_digits dim) d)
 
-is_centre : (dim : Dim) (p : CellKey) → IsCell dim p → IsCentre dim (centre_child dim p)
+pub is_centre : (dim : Dim) (p : CellKey) → IsCell dim p → IsCentre dim (centre_child dim p)
 is_centre dim p cell = record { below = omega arith; centre = ap (centre_child dim) (sym (own_parent dim p cell)) }
 
 pub parent_finds : ParentFinds

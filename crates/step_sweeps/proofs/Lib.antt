@@ -5,3 +5,4 @@ pub mod PrimarySlots
 pub mod PrimaryTally
 pub mod PrimaryTree
 pub mod Secondaries
+pub mod Centres

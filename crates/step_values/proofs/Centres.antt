@@ -89,10 +89,10 @@ pub step_takes_centre : StepTakesCentre
 step_takes_centre updated marked g f new after grid step c refined = takes_centre updated marked g f new after grid step c refined
 
 -- the centre child of a refined cell of a grid
-centre_cell : (k : Cuts) (g : Spacetree) (c : CellKey) → IsCutGrid k g → IsCell k.dim c → is_refined g c ≡ true → IsCell k.dim (centre_child k.dim c)
+pub centre_cell : (k : Cuts) (g : Spacetree) (c : CellKey) → IsCutGrid k g → IsCell k.dim c → is_refined g c ≡ true → IsCell k.dim (centre_child k.dim c)
 centre_cell k g c fits cell refined = child_cell k.dim c (centre_digits k.dim) cell (omega (arith, fits.grid.levels c refined, fits.deepest)) (centre_is_digits k.dim)
 
-centre_there : (k : Cuts) (g : Spacetree) (c : CellKey) → IsCell k.dim c → is_refined g c ≡ true → has_cell g (centre_child k.dim c) ≡ true
+pub centre_there : (k : Cuts) (g : Spacetree) (c : CellKey) → IsCell k.dim c → is_refined g c ≡ true → has_cell g (centre_child k.dim c) ≡ true
 centre_there k g c cell refined = let d = centre_is_digits k.dim in child_there g c (centre_digits k.dim) cell.shape d.first d.second (third_digit k.dim (centre_digits k.dim) d) refined
 
 module _ (k : Cuts) (w : Change) (ready : CellKey → Bool) (t : ℕ) (before after : Store) (fits : IsCutGrid k w.old) (all : TreeSays k w.old t (AfterFirst w ready) before) (swept : IsSwept k w.old t (CentreChanges k w ready after t) before after) where

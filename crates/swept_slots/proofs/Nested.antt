@@ -1,11 +1,11 @@
 -- Between the leave of a centre child and that of its parent no other centre child of the level is left.
-use Rattle.std.proofs.Common.{◌≡◌, ◌≢◌, ◌⊎◌, ℕ, zero, suc, ◌+◌, ◌-◌, ◌<◌, ◌≤◌, ◌==◌, ◌&&◌, Bool, true, false, if◌then◌else◌, List, [], ◌∷◌, ◌++◌, Option, Some, None, refl, ap, sym, ◌∙◌, subst, inl, inr, ⊎_elim, arith, append-nil, eq-eqb, ne_eqb}
+use Rattle.std.proofs.Common.{◌≡◌, ◌≢◌, ◌⊎◌, ℕ, zero, suc, ◌+◌, ◌<◌, ◌≤◌, ◌==◌, ◌&&◌, Bool, true, false, if◌then◌else◌, List, [], ◌∷◌, ◌++◌, Option, Some, refl, ap, sym, ◌∙◌, subst, inl, inr, ⊎_elim, arith, append-nil, eq-eqb, ne_eqb}
 use Rattle.std.proofs.lemmas.Bool.{cases_lt}
 use Rattle.peano_keys.specs.declared.cell.CellKey.{CellKey}
 use Rattle.peano_keys.specs.declared.dim.Dim.{Dim}
-use Rattle.peano_keys.specs.declared.dim.Dim.TheVariants.{Two, Three}
 use Rattle.peano_curve.specs.declared.order.Direction.{Direction}
 use Rattle.peano_curve.specs.Order.{children, child_along}
+use Rattle.tree_automaton.proofs.Visited.{child_level}
 use Rattle.sweep_visits.specs.Visits.{Visit, enter, leave, from_child, visits_at}
 
 -- where an item of two lists is
@@ -35,15 +35,11 @@ module _ (centre : CellKey → Bool) (l : ℕ) where
   last_append o (enter c ∷ vs) ws = last_append o vs ws
   last_append o (leave c ∷ vs) ws = last_append (left_one c o) vs ws
 
-  other_level : (c : CellKey) (o : Option CellKey) → c.level ≢ l → left_one c o ≡ o
+  pub other_level : (c : CellKey) (o : Option CellKey) → c.level ≢ l → left_one c o ≡ o
   other_level c o apart = ap (λ b. if b && centre c then Some c else o) (ne_eqb c.level l apart)
 
-  its_level : (c : CellKey) (o : Option CellKey) (b : Bool) → c.level ≡ l → centre c ≡ b → left_one c o ≡ (if b then Some c else o)
+  pub its_level : (c : CellKey) (o : Option CellKey) (b : Bool) → c.level ≡ l → centre c ≡ b → left_one c o ≡ (if b then Some c else o)
   its_level c o b level is = ap (λ x. if x && centre c then Some c else o) (eq-eqb c.level l level) ∙ ap (λ x. if x then Some c else o) is
-
-child_level : (dim : Dim) (dir : Direction) (c : CellKey) (k : ℕ) → (child_along dir dim c k).level ≡ c.level + 1
-child_level Two dir c k = refl
-child_level Three dir c k = refl
 
 module _ (dim : Dim) (dir : Direction) (visited opened centre : CellKey → Bool) where
   abbrev at : ℕ → CellKey → List Visit
@@ -61,7 +57,7 @@ module _ (dim : Dim) (dir : Direction) (visited opened centre : CellKey → Bool
       by : (b : Bool) → last_left centre l o (if b then enter c ∷ leave c ∷ [] else []) ≡ o
       by true = other_level centre l c o (λ e. absurd (omega (arith, e, deeper)))
       by false = refl
-  below_keeps l (suc levels) c deeper o = by (λ k x. below_keeps l levels (child_along dir dim c k) (omega (arith, deeper, child_level dim dir c k)) x) (visited c) (opened c)
+  below_keeps l (suc levels) c deeper o = by (λ k x. below_keeps l levels (child_along dir dim c k) (omega (arith, deeper, child_level dir dim c k)) x) (visited c) (opened c)
     where
       by : ((k : ℕ) (x : Option CellKey) → last_left centre l x (at levels (child_along dir dim c k)) ≡ x) → (b p : Bool) → last_left centre l o (if b then enter c ∷ ((if p then from_child dim dir (at levels) c 0 (children dim) else []) ++ leave c ∷ []) else []) ≡ o
       by below true true = last_append centre l o (from_child dim dir (at levels) c 0 (children dim)) (leave c ∷ []) ∙ (other_level centre l c _ (λ e. absurd (omega (arith, e, deeper))) ∙ each_keeps l (at levels) c below 0 (children dim) o)
@@ -77,7 +73,7 @@ module _ (dim : Dim) (dir : Direction) (visited opened centre : CellKey → Bool
     where
       by : (q : Bool) → last_left centre c.level o ((if q then from_child dim dir (at levels) c 0 (children dim) else []) ++ leave c ∷ []) ≡ (if p then Some c else o)
       by true = last_append centre c.level o (from_child dim dir (at levels) c 0 (children dim)) (leave c ∷ [])
-          ∙ (ap (λ x. left_one centre c.level c x) (each_keeps c.level (at levels) c (λ k x. below_keeps c.level levels (child_along dir dim c k) (omega (arith, child_level dim dir c k)) x) 0 (children dim) o) ∙ its_level centre c.level c o p refl e)
+          ∙ (ap (λ x. left_one centre c.level c x) (each_keeps c.level (at levels) c (λ k x. below_keeps c.level levels (child_along dir dim c k) (omega (arith, child_level dir dim c k)) x) 0 (children dim) o) ∙ its_level centre c.level c o p refl e)
       by false = its_level centre c.level c o p refl e
 
   -- a cell that is opened has one child that passes the test, which is visited
@@ -88,35 +84,42 @@ module _ (dim : Dim) (dir : Direction) (visited opened centre : CellKey → Bool
     pub child : child_along dir dim p place ≡ m
     pub there : visited m ≡ true
     pub is_centre : centre m ≡ true
-    pub others : (k : ℕ) → k < children dim → k ≢ place → centre (child_along dir dim p k) ≡ false
+    pub others : (k : ℕ) → k < children dim → centre (child_along dir dim p k) ≡ true → child_along dir dim p k ≡ m
 
   module _ (levels : ℕ) (p m : CellKey) (has : HasCentre p m) where
-    -- children from a place on, without the one that passes
-    others_keep : (k more : ℕ) (o : Option CellKey) → k + more ≤ children dim → ((j : ℕ) → k ≤ j → j < k + more → j ≢ has.place) → last_left centre (p.level + 1) o (from_child dim dir (at levels) p k more) ≡ o
-    others_keep k zero o within apart = refl
-    others_keep k (suc more) o within apart =
-        let c : CellKey = child_along dir dim p k in
-        let here : last_left centre (p.level + 1) o (at levels c) ≡ o = subst (λ n. last_left centre n o (at levels c) ≡ o) (child_level dim dir p k) (itself_left levels c o (visited c) false refl (has.others k (omega (arith, within)) (apart k (omega arith) (omega arith))) ∙ stays (visited c)) in
-        last_append centre (p.level + 1) o (at levels c) (from_child dim dir (at levels) p (k + 1) more) ∙ (ap (λ x. last_left centre (p.level + 1) x (from_child dim dir (at levels) p (k + 1) more)) here ∙ others_keep (k + 1) more o (omega (arith, within)) (λ j low high. apart j (omega (arith, low)) (omega (arith, high))))
+    -- a child that passes is that one
+    one_child : (k : ℕ) → k < children dim → (o : Option CellKey) → o ≡ Some m → last_left centre (p.level + 1) o (at levels (child_along dir dim p k)) ≡ Some m
+    one_child k below o is = subst (λ n. last_left centre n o (at levels c) ≡ Some m) (child_level dir dim p k) (itself_left levels c o (visited c) (centre c) refl refl ∙ by (visited c) (centre c) refl)
       where
-        stays : (b : Bool) → (if b then o else o) ≡ o
-        stays true = refl
-        stays false = refl
+        c : CellKey
+        c = child_along dir dim p k
 
-    -- and with it
+        by : (b q : Bool) → centre (child_along dir dim p k) ≡ q → (if b then (if q then Some (child_along dir dim p k) else o) else o) ≡ Some m
+        by true true e = ap Some (has.others k below e)
+        by true false e = is
+        by false q e = is
+
+    -- so from then on it stays
+    centre_stays : (k more : ℕ) (o : Option CellKey) → k + more ≤ children dim → o ≡ Some m → last_left centre (p.level + 1) o (from_child dim dir (at levels) p k more) ≡ Some m
+    centre_stays k zero o within is = is
+    centre_stays k (suc more) o within is =
+        last_append centre (p.level + 1) o (at levels (child_along dir dim p k)) (from_child dim dir (at levels) p (k + 1) more)
+        ∙ centre_stays (k + 1) more (last_left centre (p.level + 1) o (at levels (child_along dir dim p k))) (omega (arith, within)) (one_child k (omega (arith, within)) o is)
+
+    -- once it was left
     centre_left : (k more : ℕ) (o : Option CellKey) → k + more ≤ children dim → k ≤ has.place → has.place < k + more → last_left centre (p.level + 1) o (from_child dim dir (at levels) p k more) ≡ Some m
     centre_left k zero o within low high = absurd (omega (arith, low, high))
     centre_left k (suc more) o within low high =
         last_append centre (p.level + 1) o (at levels (child_along dir dim p k)) (from_child dim dir (at levels) p (k + 1) more)
         ∙ ⊎_elim
         (λ less. centre_left (k + 1) more (last_left centre (p.level + 1) o (at levels (child_along dir dim p k))) (omega (arith, within)) (omega (arith, less)) (omega (arith, high)))
-        (λ least. let e : has.place ≡ k = omega (arith, low, least) in ap (λ x. last_left centre (p.level + 1) x (from_child dim dir (at levels) p (k + 1) more)) (found e) ∙ others_keep (k + 1) more (Some m) (omega (arith, within)) (λ j above below same. absurd (omega (arith, e, above, same))))
+        (λ least. let e : has.place ≡ k = omega (arith, low, least) in centre_stays (k + 1) more (last_left centre (p.level + 1) o (at levels (child_along dir dim p k))) (omega (arith, within)) (found e))
         (cases_lt k has.place)
       where
         found : has.place ≡ k → last_left centre (p.level + 1) o (at levels (child_along dir dim p k)) ≡ Some m
         found e =
             let is : child_along dir dim p k ≡ m = ap (child_along dir dim p) (sym e) ∙ has.child in
-            let level : m.level ≡ p.level + 1 = ap (λ (c : CellKey). c.level) (sym is) ∙ child_level dim dir p k in
+            let level : m.level ≡ p.level + 1 = ap (λ (c : CellKey). c.level) (sym is) ∙ child_level dir dim p k in
             subst (λ c. last_left centre (p.level + 1) o (at levels c) ≡ Some m) (sym is) (subst (λ n. last_left centre n o (at levels m) ≡ Some m) level (itself_left levels m o true true has.there has.is_centre))
 
   nothing_in : (b : List Visit) (v : Visit) (a : List Visit) → [] ≡ b ++ v ∷ a → ⊥
@@ -148,7 +151,7 @@ module _ (dim : Dim) (dir : Direction) (visited opened centre : CellKey → Bool
     -- at the leave of an opened cell the last centre child of the level below was its own
     pub nested : (depth levels : ℕ) (c : CellKey) → c.level + levels ≡ depth → ((q : CellKey) → opened q ≡ true → q.level < depth) → (before after : List Visit) → at levels c ≡ before ++ leave p ∷ after → Found before
     nested depth zero c level opens before after e = let same : c ≡ p = only_itself c (visited c) before after e in absurd (omega (arith, level, opens c (subst (λ q. opened q ≡ true) (sym same) has.opens)))
-    nested depth (suc levels) c level opens before after e = by (λ k b a is. nested depth levels (child_along dir dim c k) (omega (arith, level, child_level dim dir c k)) opens b a is) (visited c) before e
+    nested depth (suc levels) c level opens before after e = by (λ k b a is. nested depth levels (child_along dir dim c k) (omega (arith, level, child_level dir dim c k)) opens b a is) (visited c) before e
       where
         no_both : false ≡ true → ⊥
         no_both h = cc
