@@ -6,3 +6,10 @@ pub mod PrimaryTally
 pub mod PrimaryTree
 pub mod Secondaries
 pub mod Centres
+pub mod OwnCounts
+pub mod HalfwaySlots
+pub mod HalfwayViews
+pub mod HalfwayCalls
+pub mod HalfwayMemory
+pub mod HalfwayStory
+pub mod SecondaryTree

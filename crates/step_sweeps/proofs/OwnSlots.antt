@@ -106,7 +106,7 @@ told_keeps dim t v w told = record {
     same_told n (Hanging k) = refl
     same_told n Beyond = tt
 
-some_same : {A : Type 0} (a b : A) → Some a ≡ Some b → a ≡ b
+pub some_same : {A : Type 0} (a b : A) → Some a ≡ Some b → a ≡ b
 some_same a b e = ap (λ (o : Option _). elim o as (λ _. _) [ Some x ↦ x | None ↦ a ]) e
 
 -- a record of a cell's corner with what is told changed in the cell's slot alone

@@ -36,6 +36,11 @@ leaf_shown_by true false e = refl
 leaf_shown_by true true e = absurd (cc)
 leaf_shown_by false refined e = absurd (cc)
 
+refined_shown_by : (there refined : Bool) → (if there then Some refined else None) ≡ Some true → refined ≡ true
+refined_shown_by true true e = refl
+refined_shown_by true false e = absurd (cc)
+refined_shown_by false refined e = absurd (cc)
+
 -- a cell of the old or the new grid is one of the grid, where both are one
 pub there_in : (old : Option Spacetree) (new : Spacetree) (c : CellKey) → old ≡ Some new → (is_cell_in old c || has_cell new c) ≡ true → has_cell new c ≡ true
 there_in old new c one h = twice (has_cell new c) (subst (λ o. (is_cell_in o c || has_cell new c) ≡ true) one h)
@@ -70,6 +75,9 @@ module _ (p : TreeSweep) (serves : p.serves ≡ Plain) (one : p.plan.old ≡ Som
 
     pub refined_seen : has_cell g c ≡ true → is_refined g c ≡ true → v.was ≡ Some true
     refined_seen there refined = was_is ∙ flag_says g c true true there refined
+
+    pub refined_shown : v.was ≡ Some true → is_refined g c ≡ true
+    refined_shown e = refined_shown_by (has_cell g c) (is_refined g c) (sym was_is ∙ e)
 
     -- and has the cell's value at the home corner
     pub home_shows : IsCell g.dim c → has_cell g c ≡ true → value_at_home g.dim v ≡ value_of g p.field c

@@ -12,5 +12,5 @@ mod told;
 
 pub use primary::Primary;
 pub use secondary::Secondary;
-pub use sweeps::primary_tree;
+pub use sweeps::{primary_tree, secondary_tree};
 pub use tally::Tally;

@@ -62,7 +62,7 @@ module _ (k : Cuts) (g : Spacetree) (t number : ℕ) (dir : Direction) (s : Tree
       })
 
   -- a record of the list is that of a vertex that the tree has
-  has_vertex : t < k.trees → (r : Stored) → IsIn r s.lanes.input → HasVertex k g t r.key
+  pub has_vertex : t < k.trees → (r : Stored) → IsIn r s.lanes.input → HasVertex k g t r.key
   has_vertex tree r h =
       let taken : IsIn r.key (taken_by (moves_of plan)) = subst (IsIn r.key) lists.input (in_map key_of r s.lanes.input h) in
       let held = ((streams_are_stored plan is_plan).0.members r.key).0 taken in
@@ -85,7 +85,7 @@ module _ (k : Cuts) (g : Spacetree) (t number : ℕ) (dir : Direction) (s : Tree
       record { key = ap (λ (r : Stored). r.key) same ∙ sym found.2; among = in_among (copies s.lanes.input v) s.lanes.input (subst (λ r. IsIn r s.lanes.input) (sym same) found.1) }
 
   -- what the copies say, each record of the list says
-  said_each : (P : CellKey → Slot → Type 0) (Q : Stored → Type 0) → t < k.trees → TreeSays k g t P (copies s.lanes.input) → ((r : Stored) → Says g.dim r.key P r → Q r) → All Q s.lanes.input
+  pub said_each : (P : CellKey → Slot → Type 0) (Q : Stored → Type 0) → t < k.trees → TreeSays k g t P (copies s.lanes.input) → ((r : Stored) → Says g.dim r.key P r → Q r) → All Q s.lanes.input
   said_each P Q tree says is = all_from Q s.lanes.input (λ r h. is r (subst (λ d. Says d r.key P r) (sym fits.dim) (subst (Says k.dim r.key P) (copy_is s.lanes.input keys_differ r h) (says r.key (has_vertex tree r h)))))
 
 pub store_has_copies : StoreHasCopies
