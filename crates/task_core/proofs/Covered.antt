@@ -15,7 +15,8 @@ use Rattle.task_core.specs.declared.stop.Stop.TheVariants.{Pass, Compute, Offer}
 use Rattle.task_core.specs.declared.event.Event.{Event}
 use Rattle.task_core.specs.declared.event.Sweep.{Sweep}
 use Rattle.task_core.specs.declared.event.Sweep.TheVariants.{First, Second, Over}
-use Rattle.task_core.specs.Core.{Answers, Offered, Tree, Core, stops, all_made, rewound, answer_of, put, answers_after, stepped, or_skipped, run}
+use Rattle.task_core.specs.declared.stop.Offered.{Offered}
+use Rattle.task_core.specs.Core.{Answers, Tree, Core, stops, all_made, rewound, answer_of, put, answers_after, stepped, or_skipped, run}
 use Rattle.task_core.specs.Opening.{Each, Opens, CoversAll}
 use Rattle.task_core.proofs.Lists.{none_is, some_is, get_here, get_else, get_map, below, each_set, each_map, by_place}
 use Rattle.task_core.proofs.Keys.{by_key, get_new}

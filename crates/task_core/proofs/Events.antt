@@ -11,7 +11,8 @@ use Rattle.task_core.specs.declared.event.Event.{Event}
 use Rattle.task_core.specs.declared.event.Event.TheVariants.{Visit, Take, Publish, Collect, Exchange}
 use Rattle.task_core.specs.declared.event.Sweep.{Sweep}
 use Rattle.task_core.specs.declared.event.Sweep.TheVariants.{First, Second, Over}
-use Rattle.task_core.specs.Core.{Answers, Offered, Tree, Core, stops, all_made, tasks_after, rewound, put, answers_after, visited_at, visited, worded, Move, moved_at, moved, take_move, publish_move, collect_move, in_sweep, stepped, or_skipped, run}
+use Rattle.task_core.specs.declared.stop.Offered.{Offered}
+use Rattle.task_core.specs.Core.{Answers, Tree, Core, stops, all_made, tasks_after, rewound, put, answers_after, visited_at, visited, worded, Move, moved_at, moved, take_move, publish_move, collect_move, in_sweep, stepped, or_skipped, run}
 
 -- a word that moved stands no further back
 forward_by : (w u : Word) (o : Option Word) → o ≡ Some u → place_of w ≤ place_of (after w o) → place_of w ≤ place_of u

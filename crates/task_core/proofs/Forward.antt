@@ -9,7 +9,8 @@ use Rattle.task_core.specs.declared.stop.Stop.TheVariants.{Pass, Compute, Offer}
 use Rattle.task_core.specs.declared.event.Event.{Event}
 use Rattle.task_core.specs.declared.event.Sweep.{Sweep}
 use Rattle.task_core.specs.declared.event.Sweep.TheVariants.{First, Second, Over}
-use Rattle.task_core.specs.Core.{Offered, Tree, Core, tasks_after, rewound, stepped, or_skipped, run}
+use Rattle.task_core.specs.declared.stop.Offered.{Offered}
+use Rattle.task_core.specs.Core.{Tree, Core, tasks_after, rewound, stepped, or_skipped, run}
 use Rattle.task_core.specs.Laws.{HasWord}
 use Rattle.task_core.proofs.Lists.{some_is, get_here, get_else, get_append, get_map, by_place}
 use Rattle.task_core.proofs.Events.{by_event, by_events, tree_visited, tree_moved}

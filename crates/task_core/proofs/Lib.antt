@@ -1,6 +1,9 @@
-pub mod Lists
-pub mod Keys
-pub mod Events
-pub mod Sound
-pub mod Covered
-pub mod Forward
+mod Lists
+mod Keys
+mod Events
+mod Sound
+mod Covered
+mod Forward
+mod Found
+mod Trees
+mod Desks

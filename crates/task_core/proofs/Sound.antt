@@ -14,7 +14,8 @@ use Rattle.task_core.specs.declared.stop.Stop.TheVariants.{Pass, Compute, Offer}
 use Rattle.task_core.specs.declared.event.Event.{Event}
 use Rattle.task_core.specs.declared.event.Sweep.{Sweep}
 use Rattle.task_core.specs.declared.event.Sweep.TheVariants.{First, Second, Over}
-use Rattle.task_core.specs.Core.{Answers, Offered, Tree, Core, stops, tasks_after, rewound, answer_of, put, answers_after, stepped, or_skipped, run}
+use Rattle.task_core.specs.declared.stop.Offered.{Offered}
+use Rattle.task_core.specs.Core.{Answers, Tree, Core, stops, tasks_after, rewound, answer_of, put, answers_after, stepped, or_skipped, run}
 use Rattle.task_core.specs.Opening.{Each, IsOpeningLeaf, IsOpeningStop, Opens}
 use Rattle.task_core.proofs.Lists.{none_is, some_is, each_set, each_append, each_map}
 use Rattle.task_core.proofs.Events.{by_event, by_events}

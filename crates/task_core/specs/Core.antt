@@ -1,5 +1,6 @@
 -- The core: one step of all trees as a machine, and what each event does to it.
-use Rattle.std.specs.Prelude.{ℕ, ◌+◌, ◌==◌, ◌&&◌, Bool, true, List, [], ◌∷◌, ◌++◌, length, map, slice_get, slice_set, Option, Some, None, is_some, if◌then◌else◌}
+use Rattle.std.specs.Prelude.{ℕ, ◌+◌, ◌==◌, Bool, List, [], ◌∷◌, ◌++◌, length, map, slice_get, slice_set, Option, Some, None, is_some, if◌then◌else◌}
+use Rattle.std.specs.List.{list_all}
 use Rattle.std.specs.FinMap as fin
 use Rattle.peano_keys.specs.declared.state.State.{State}
 use Rattle.peano_keys.specs.Cell.{key_cmp}
@@ -8,6 +9,7 @@ use Rattle.result_table.specs.declared.word.Word.{Word}
 use Rattle.result_table.specs.declared.word.Word.TheVariants as word
 use Rattle.result_table.specs.Words.{taken, published, collected}
 use Rattle.task_core.specs.declared.stop.Leaf.{Leaf}
+use Rattle.task_core.specs.declared.stop.Offered.{Offered}
 use Rattle.task_core.specs.declared.stop.Stop.{Stop}
 use Rattle.task_core.specs.declared.stop.Stop.TheVariants.{Pass, Compute, Offer}
 use Rattle.task_core.specs.declared.event.Event.{Event}
@@ -18,11 +20,6 @@ use Rattle.task_core.specs.declared.event.Sweep.TheVariants.{First, Second, Over
 -- the answers of kernels, by leaf; an answer is none where a new value leaves its range
 abbrev pub Answers : Type 0
 Answers = fin.FinMap key_cmp (Option State)
-
--- a task: the leaf, and its word
-pub record Offered : Type 0 where
-  pub leaf : Leaf
-  pub word : Word
 
 -- a tree: its visits in both sweeps, how many of the present one it made, and its tasks by number
 pub record Tree : Type 0 where
@@ -44,8 +41,7 @@ stops Over t = []
 
 -- every tree has made all visits of the sweep
 abbrev pub all_made : Sweep → List Tree → Bool
-all_made s [] = true
-all_made s (t ∷ ts) = (t.made == length (stops s t)) && all_made s ts
+all_made s ts = list_all (λ t. t.made == length (stops s t)) ts
 
 -- the tasks after a visit: in the first sweep an offered leaf becomes a task, which is Free
 abbrev pub tasks_after : Sweep → List Offered → Stop → List Offered

@@ -10,7 +10,8 @@ use Rattle.result_table.specs.declared.word.Word.{Word}
 use Rattle.result_table.specs.Words.{place_of}
 use Rattle.task_core.specs.declared.event.Event.{Event}
 use Rattle.task_core.specs.declared.event.Sweep.TheVariants.{Over}
-use Rattle.task_core.specs.Core.{Tree, Offered, Core, run}
+use Rattle.task_core.specs.declared.stop.Offered.{Offered}
+use Rattle.task_core.specs.Core.{Tree, Core, run}
 use Rattle.task_core.specs.Opening.{Opens, CoversAll}
 
 -- every answer is the kernel's on the opening field, whoever computed it

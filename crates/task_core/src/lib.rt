@@ -2,9 +2,15 @@
 //! The machine and its laws stand in this crate's specs; what a run of threads does is a list of its events.
 #![tactic(auto)]
 
+mod answers;
+mod calls;
 mod event;
+mod forest;
 pub mod laws;
+mod machine;
 mod stop;
+mod tree;
 
 pub use event::{Event, Reply, Sweep};
-pub use stop::{Leaf, Stop};
+pub use machine::Core;
+pub use stop::{Leaf, Offered, Stop};

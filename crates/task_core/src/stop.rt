@@ -1,5 +1,6 @@
 //! What a visit of a sweep has to do.
 use peano_keys::{CellKey, Sides, State};
+use result_table::Word;
 
 /// A leaf as its kernel sees it: its own state and its sides in the opening field.
 #[derive(Clone, Copy)]
@@ -15,4 +16,11 @@ pub enum Stop {
     Pass,
     Compute(Leaf),
     Offer(Leaf),
+}
+
+/// A leaf that a visit offered, and the word of its task.
+#[derive(Clone, Copy)]
+pub struct Offered {
+    pub leaf: Leaf,
+    pub word: Word,
 }
