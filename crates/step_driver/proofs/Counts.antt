@@ -1,0 +1,105 @@
+-- What sweeps of a tree move, whichever way they go.
+use Rattle.std.proofs.Common.{◌≡◌, ℕ, ◌-◌, ◌≤◌, ◌||◌, Bool, true, false, List, [], length, refl, ap, sym, subst, ◌∙◌, arith}
+use Rattle.std.specs.Prelude.{Some, None}
+use Rattle.std.specs.List.{sum_by}
+use Rattle.std.proofs.lemmas.Bool.{false≢true}
+use Rattle.peano_keys.specs.declared.vertex.VertexKey.{VertexKey}
+use Rattle.peano_keys.specs.Grid.{Spacetree, IsGrid}
+use Rattle.peano_curve.specs.declared.order.Direction.{Direction}
+use Rattle.peano_curve.specs.declared.order.Direction.TheVariants.{Forward}
+use Rattle.peano_curve.specs.declared.range.Range.{Range}
+use Rattle.stack_law.specs.Once.{IsIn}
+use Rattle.curve_cuts.specs.Cuts.{Cuts, IsCutGrid, range_of}
+use Rattle.vertex_stacks.specs.declared.kind.Kind.{Kind}
+use Rattle.vertex_stacks.specs.declared.kind.Kind.TheVariants.{Raise}
+use Rattle.vertex_stacks.specs.Notes.{Note}
+use Rattle.vertex_stacks.specs.Tales.{capped}
+use Rattle.sweep_visits.specs.Plan.{SweepPlan, IsSweepPlan, dim_of, is_kept, is_stored, is_stored_in}
+use Rattle.sweep_visits.specs.Moves.{moves_of, taken_by, put_by, same_vertex}
+use Rattle.sweep_visits.proofs.Same.{vertices_decided}
+use Rattle.sweep_streams.specs.Counts.{IsHeldVertex, ListsVertices, pushed_by}
+use Rattle.sweep_streams.proofs.Lists.{same_length}
+use Rattle.sweep_streams.proofs.Pushes.{streams_are_stored, pushes_are_runs_less_one}
+use Rattle.tree_automaton.specs.AtRest.{plain_plan, raising_plan}
+use Rattle.tree_automaton.proofs.Lists.{no_items}
+use Rattle.adapt_sweep.specs.Noted.{note_of}
+use Rattle.step_world.specs.Notes.{note_over, note_raised}
+use Rattle.step_driver.specs.Notes.{sizes_of}
+
+-- two lists of the same vertices have the same length
+same_many : (p q : SweepPlan) (test other : VertexKey → Bool) (xs ys : List VertexKey) → ListsVertices p test xs → ListsVertices q other ys → ((v : VertexKey) → IsHeldVertex p test v → IsHeldVertex q other v) → ((v : VertexKey) → IsHeldVertex q other v → IsHeldVertex p test v) → length xs ≡ length ys
+same_many p q test other xs ys one two to from = same_length same_vertex vertices_decided xs ys one.distinct two.distinct (λ v at. (two.members v).1 (to v ((one.members v).0 at))) (λ v at. (one.members v).1 (from v ((two.members v).0 at)))
+
+or_same : (b : Bool) → (b || b) ≡ b
+or_same true = refl
+or_same false = refl
+
+module _ (depth : ℕ) (range : Range) (g : Spacetree) (deep : depth ≤ 12) (grid : IsGrid depth g) where
+  abbrev plain : Direction → SweepPlan
+  plain dir = plain_plan depth range dir g
+
+  abbrev raising : SweepPlan
+  raising = raising_plan depth range Forward g
+
+  is_plain : (dir : Direction) → IsSweepPlan (plain dir)
+  is_plain dir = record { depth = deep; old = (grid, refl); new = grid }
+
+  is_raising : IsSweepPlan raising
+  is_raising = record { depth = deep; old = tt; new = grid }
+
+  -- a sweep over the grid takes and puts as many vertices either way
+  takes_alike : (dir : Direction) → length (taken_by (moves_of (plain dir))) ≡ length (taken_by (moves_of (plain Forward)))
+  takes_alike dir = same_many (plain dir) (plain Forward) (is_stored_in (Some g)) (is_stored_in (Some g)) _ _ (streams_are_stored (plain dir) (is_plain dir)).0 (streams_are_stored (plain Forward) (is_plain Forward)).0
+      (λ v h. record { vertex = h.vertex; passes = h.passes; held = h.held }) (λ v h. record { vertex = h.vertex; passes = h.passes; held = h.held })
+
+  puts_alike : (dir : Direction) → length (put_by (moves_of (plain dir))) ≡ length (taken_by (moves_of (plain Forward)))
+  puts_alike dir = same_many (plain dir) (plain Forward) (is_stored g) (is_stored_in (Some g)) _ _ (streams_are_stored (plain dir) (is_plain dir)).1 (streams_are_stored (plain Forward) (is_plain Forward)).0
+      (λ v h. record { vertex = h.vertex; passes = h.passes; held = h.held }) (λ v h. record { vertex = h.vertex; passes = h.passes; held = h.held })
+
+  -- and pushes as many
+  kept_alike : (dir : Direction) (vs : List VertexKey) → ListsVertices (plain dir) (is_kept (plain dir)) vs → ListsVertices (plain Forward) (is_kept (plain Forward)) vs
+  kept_alike dir vs l = record {
+    distinct = l.distinct;
+    members = λ v. (λ at. let h = (l.members v).0 at in record { vertex = h.vertex; passes = h.passes; held = h.held }, λ h. (l.members v).1 (record { vertex = h.vertex; passes = h.passes; held = h.held }));
+  }
+
+  pushes_alike : (dir : Direction) → length (pushed_by (moves_of (plain dir))) ≡ length (pushed_by (moves_of (plain Forward)))
+  pushes_alike dir =
+      let one = pushes_are_runs_less_one (plain dir) (is_plain dir) in
+      let two = pushes_are_runs_less_one (plain Forward) (is_plain Forward) in
+      one.1 one.0.0 one.0.1 ∙ sym (two.1 one.0.0 (kept_alike dir one.0.0 one.0.1))
+
+  -- a raising sweep takes none,
+  raising_takes : length (taken_by (moves_of raising)) ≡ 0
+  raising_takes = ap length (no_items (taken_by (moves_of raising)) (λ v at. false≢true (((streams_are_stored raising is_raising).0.members v).0 at).passes))
+
+  -- and puts and pushes as many as a sweep over the grid
+  raising_puts : length (put_by (moves_of raising)) ≡ length (taken_by (moves_of (plain Forward)))
+  raising_puts = same_many raising (plain Forward) (is_stored g) (is_stored_in (Some g)) _ _ (streams_are_stored raising is_raising).1 (streams_are_stored (plain Forward) (is_plain Forward)).0
+      (λ v h. record { vertex = h.vertex; passes = h.passes; held = h.held }) (λ v h. record { vertex = h.vertex; passes = h.passes; held = h.held })
+
+  raised_kept : (vs : List VertexKey) → ListsVertices raising (is_kept raising) vs → ListsVertices (plain Forward) (is_kept (plain Forward)) vs
+  raised_kept vs l = record {
+    distinct = l.distinct;
+    members = λ v. (λ at. let h = (l.members v).0 at in record { vertex = h.vertex; passes = or_same (is_stored g v) ∙ h.passes; held = h.held }, λ h. (l.members v).1 (record { vertex = h.vertex; passes = sym (or_same (is_stored g v)) ∙ h.passes; held = h.held }));
+  }
+
+  raising_pushes : length (pushed_by (moves_of raising)) ≡ length (pushed_by (moves_of (plain Forward)))
+  raising_pushes =
+      let one = pushes_are_runs_less_one raising is_raising in
+      let two = pushes_are_runs_less_one (plain Forward) (is_plain Forward) in
+      one.1 one.0.0 one.0.1 ∙ sym (two.1 one.0.0 (raised_kept one.0.0 one.0.1))
+
+abbrev numbers : ℕ → Kind → ℕ → ℕ → ℕ → ℕ → Note
+numbers step kind t a b c = record { step = step; kind = kind; tree = t; taken = capped a; put = capped b; pushed = capped c }
+
+same_note : (step : ℕ) (kind : Kind) (t a b c x y z : ℕ) → a ≡ x → b ≡ y → c ≡ z → numbers step kind t a b c ≡ numbers step kind t x y z
+same_note step kind t a b c x y z e f g = rw (e, f, g) refl
+
+-- the note of a sweep over a grid
+pub note_plain : (k : Cuts) (g : Spacetree) (dir : Direction) (kind : Kind) (step t : ℕ) → IsCutGrid k g → note_of (plain_plan k.depth (range_of k t) dir g) kind step t ≡ note_over (sizes_of k) step kind g t
+note_plain k g dir kind step t fits = same_note step kind t _ _ _ _ _ _ (takes_alike k.depth (range_of k t) g fits.deepest fits.grid dir) (puts_alike k.depth (range_of k t) g fits.deepest fits.grid dir) (pushes_alike k.depth (range_of k t) g fits.deepest fits.grid dir)
+
+-- and of a raising sweep
+pub note_raising : (k : Cuts) (g : Spacetree) (t : ℕ) → IsCutGrid k g → note_of (raising_plan k.depth (range_of k t) Forward g) Raise 0 t ≡ note_raised (sizes_of k) g t
+note_raising k g t fits = same_note 0 Raise t _ _ _ _ _ _ (raising_takes k.depth (range_of k t) g fits.deepest fits.grid) (raising_puts k.depth (range_of k t) g fits.deepest fits.grid) (raising_pushes k.depth (range_of k t) g fits.deepest fits.grid)

@@ -1,0 +1,102 @@
+-- The trees of a world as it starts.
+use Rattle.std.proofs.Common.{◌≡◌, ℕ, suc, ◌+◌, ◌<◌, ◌≤◌, true, List, [], ◌∷◌, ◌++◌, length, refl, ap, ap₂, sym, subst, ◌∙◌, ⊎_elim, arith}
+use Rattle.std.specs.Prelude.{pos}
+use Rattle.std.proofs.lemmas.Bool.{cases_eq}
+use Rattle.std.proofs.lemmas.List.{length-append, get_or_append_left, get_or_push}
+use Rattle.peano_keys.specs.declared.dim.Dim.{Dim}
+use Rattle.peano_keys.specs.Grid.{Spacetree}
+use Rattle.peano_keys.specs.Field.{States, value_of}
+use Rattle.peano_curve.specs.declared.order.Direction.TheVariants.{Forward, Backward}
+use Rattle.peano_curve.specs.declared.range.Range.{Range}
+use Rattle.spacetree.specs.Fields.{HasLeaves}
+use Rattle.curve_cuts.specs.Cuts.{Cuts, IsCutGrid, range_of}
+use Rattle.vertex_stacks.specs.Lists.{nothing_moved}
+use Rattle.vertex_stacks.specs.Notes.{Note}
+use Rattle.vertex_stacks.specs.Tales.{TaleGrows, no_tale, with_note}
+use Rattle.tree_automaton.specs.TreeLists.{TreeLists}
+use Rattle.step_phases.specs.declared.phase.Phase.TheVariants.{Opening}
+use Rattle.step_phases.specs.Sweeps.{IsRaised}
+use Rattle.boundary_streams.specs.Trees.{copies_of}
+use Rattle.adapt_sweep.specs.Raising.{CanBeRaised, IsRaisedTree}
+use Rattle.step_world.specs.Notes.{note_raised, by_trees}
+use Rattle.step_world.specs.Worlds.{StandFor}
+use Rattle.step_world.proofs.Worlds.{start_stands}
+use Rattle.step_driver.specs.Stores.{no_store, store_of, AllMerged, AllHaveLists, AllStandFor}
+use Rattle.step_driver.specs.Notes.{sizes_of, HaveTales}
+use Rattle.step_driver.specs.Starts.{IsRaisedStore, IsRaisedWith, AreRaised, AreStarted}
+use Rattle.step_driver.proofs.Counts.{note_raising}
+use Rattle.step_driver.proofs.Exchanges.{lists_after, owners_taken, tale_stays}
+use Rattle.step_driver.proofs.Notes.{tales_grow}
+use Rattle.step_driver.proofs.Standing.{all_stand}
+
+-- a store as it is made
+abbrev pub new_store : Dim → ℕ → Range → ℕ → TreeLists
+new_store dim depth range t = record {
+  cells = [];
+  written = [];
+  lanes = nothing_moved dim (pos 0);
+  depth = depth;
+  range = range;
+  tree = t;
+  dir = Forward;
+  live = true;
+  cell_room = 0;
+  stored = 0;
+  leaves = 0;
+  counted = 0;
+}
+
+-- for one of the trees
+pub made_for : (k : Cuts) (t : ℕ) (dim : Dim) (depth : ℕ) (range : Range) (s : TreeLists) → dim ≡ k.dim → depth ≡ k.depth → range ≡ range_of k t → s ≡ new_store dim depth range t → s ≡ new_store k.dim k.depth (range_of k t) t
+made_for k t dim depth range s d e r is = is ∙ rw (d, e, r) refl
+
+-- can be raised
+pub can_be_raised : (k : Cuts) (g : Spacetree) (t : ℕ) (s : TreeLists) → IsCutGrid k g → t < k.trees → s ≡ new_store k.dim k.depth (range_of k t) t → CanBeRaised k g s
+can_be_raised k g t s fits below is = subst (CanBeRaised k g) (sym is) (record {
+  grid = fits;
+  tree = below;
+  empty = record { dim_is = sym fits.dim; depth_is = refl; range_is = refl; tree = refl; dir = refl; live = refl; cells = refl; written = refl; input = refl; output = refl; lanes = refl; taken = refl; put = refl; pushed = refl; counted = refl; stored = refl };
+})
+
+-- and then stands as one that is raised
+pub raised_store : (k : Cuts) (g : Spacetree) (f : States) (t : ℕ) (s u : TreeLists) (note : Note) → IsCutGrid k g → s ≡ new_store k.dim k.depth (range_of k t) t → IsRaisedTree k g f 0 s u note → IsRaisedWith k g f t u note
+raised_store k g f t s u note fits is h =
+    let raised : IsRaisedTree k g f 0 (new_store k.dim k.depth (range_of k t) t) u note = subst (λ z. IsRaisedTree k g f 0 z u note) is h in
+    let noted : note ≡ note_raised (sizes_of k) g t = raised.noted.counts ∙ note_raising k g t fits in
+    record { store = record { lists = raised.lists; slots = raised.slots; tale = raised.noted.tale ∙ ap (with_note no_tale) noted }; noted = noted }
+
+next : (n : ℕ) → suc n ≡ n + 1
+next n = omega arith
+
+-- one more raised tree
+pub raised_more : (k : Cuts) (g : Spacetree) (f : States) (n : ℕ) (stores : List TreeLists) (notes : List Note) (s : TreeLists) (note : Note) → AreRaised k g f n stores notes → IsRaisedWith k g f n s note → AreRaised k g f (n + 1) (stores ++ s ∷ []) (notes ++ note ∷ [])
+raised_more k g f n stores notes s note h new = record {
+  count = length-append stores (s ∷ []) ∙ ap (λ m. m + 1) h.count;
+  each = λ t below. ⊎_elim
+      (λ e. subst (λ m. IsRaisedStore k g f m (store_of (stores ++ s ∷ []) m)) (sym e) (subst (IsRaisedStore k g f n) (sym (get_or_push stores s no_store n h.count)) new.store))
+      (λ apart.
+      let inside : t < n = omega (arith, below, apart) in
+      let there : t < length stores = omega (arith, inside, h.count) in
+      subst (IsRaisedStore k g f t) (sym (get_or_append_left stores (s ∷ []) no_store t there)) (h.each t inside))
+      (cases_eq t n);
+  noted = ap₂ (λ (xs : List Note) (x : Note). xs ++ x ∷ []) h.noted new.noted ∙ ap (λ m. by_trees m (note_raised (sizes_of k) g)) (next n);
+}
+
+module _ (k : Cuts) (g : Spacetree) (f : States) (stores : List TreeLists) (notes : List Note) (fits : IsCutGrid k g) (field : HasLeaves g f) (grows : TaleGrows) (h : AreRaised k g f k.trees stores notes) where
+  pub raised_lists : AllHaveLists k Backward g stores
+  raised_lists = record { count = h.count; each = λ t below. (h.each t below).lists }
+
+  each_raised : (t : ℕ) → IsRaised k g (value_of g f) t (copies_of (store_of stores) t)
+  each_raised t v has = (h.each t has.corner.tree).slots v has
+
+  raised_tales : HaveTales k.trees stores notes
+  raised_tales = subst (HaveTales k.trees stores) (sym h.noted) (tales_grow (note_raised (sizes_of k) g) (λ s. refl) grows k.trees [] stores [] (λ t below. sym grows.0) (λ t below. (h.each t below).tale))
+
+  -- raised trees that exchanged
+  pub started : (after : List TreeLists) → AllMerged Opening k stores after → AreStarted k g f after notes
+  started after merged = record {
+    stand = all_stand k Backward g f after (lists_after Opening k Backward g stores after raised_lists merged)
+        (start_stands k g f (copies_of (store_of stores)) (copies_of (store_of after)) fits field each_raised (owners_taken Opening k Backward g stores after fits raised_lists merged));
+    tales = λ t below. tale_stays Opening k stores after t below merged ∙ raised_tales t below;
+    noted = h.noted;
+  }

@@ -1,0 +1,45 @@
+-- How a world starts.
+use Rattle.std.specs.Prelude.{◌≡◌, ℕ, ◌<◌, List, length}
+use Rattle.peano_keys.specs.declared.cell.CellKey.{CellKey}
+use Rattle.peano_keys.specs.Grid.{Spacetree}
+use Rattle.peano_keys.specs.Field.{States, value_of}
+use Rattle.peano_curve.specs.declared.order.Direction.TheVariants.{Backward}
+use Rattle.curve_cuts.specs.Cuts.{Cuts, range_of}
+use Rattle.curve_cuts.specs.Keys.{CutPoints, AreEqualCuts}
+use Rattle.curve_cuts.specs.Leaves.{AreLeaves}
+use Rattle.vertex_stacks.specs.Notes.{Note}
+use Rattle.vertex_stacks.specs.Tales.{no_tale, with_note}
+use Rattle.tree_automaton.specs.TreeLists.{TreeLists}
+use Rattle.tree_automaton.specs.AtRest.{HasLists, plain_plan}
+use Rattle.step_phases.specs.Sweeps.{IsRaised}
+use Rattle.swept_slots.specs.Copies.{copies}
+use Rattle.step_world.specs.Notes.{note_raised, by_trees}
+use Rattle.step_driver.specs.Stores.{store_of, AllStandFor}
+use Rattle.step_driver.specs.Notes.{sizes_of, HaveTales}
+
+-- the keys of so many trees with which a run over a grid starts: equal shares of the grid's leaves, in the order of the curve
+abbrev pub AreFirstKeys : ℕ → Spacetree → ℕ → CutPoints → Type 0
+AreFirstKeys depth g trees keys = (leaves : List CellKey) × AreLeaves g.dim depth g leaves × AreEqualCuts g.dim depth leaves trees keys
+
+-- a tree raised from a grid and a field: the lists of a store at rest, copies that are raised, and one note
+pub record IsRaisedStore (k : Cuts) (g : Spacetree) (f : States) (t : ℕ) (s : TreeLists) : Type 0 where
+  pub lists : HasLists (plain_plan k.depth (range_of k t) Backward g) t s
+  pub slots : IsRaised k g (value_of g f) t (copies s.lanes.input)
+  pub tale : s.lanes.tale ≡ with_note no_tale (note_raised (sizes_of k) g t)
+
+-- with its note
+pub record IsRaisedWith (k : Cuts) (g : Spacetree) (f : States) (t : ℕ) (s : TreeLists) (note : Note) : Type 0 where
+  pub store : IsRaisedStore k g f t s
+  pub noted : note ≡ note_raised (sizes_of k) g t
+
+-- the first trees are raised, and so they note
+pub record AreRaised (k : Cuts) (g : Spacetree) (f : States) (trees : ℕ) (stores : List TreeLists) (notes : List Note) : Type 0 where
+  pub count : length stores ≡ trees
+  pub each : (t : ℕ) → t < trees → IsRaisedStore k g f t (store_of stores t)
+  pub noted : notes ≡ by_trees trees (note_raised (sizes_of k) g)
+
+-- all trees, raised and exchanged, stand for the grid and the field, each with the tale of its one note
+pub record AreStarted (k : Cuts) (g : Spacetree) (f : States) (stores : List TreeLists) (notes : List Note) : Type 0 where
+  pub stand : AllStandFor k Backward g f stores
+  pub tales : HaveTales k.trees stores notes
+  pub noted : notes ≡ by_trees k.trees (note_raised (sizes_of k) g)

@@ -1,0 +1,14 @@
+//! Laws of worlds.
+ghost use Rattle.step_driver.specs.Worlds.{WorldIsAtOne, WorldStands};
+
+use solver_api::Solver;
+
+/// A world is at no more than one grid and field, after one number of steps.
+pub fn world_is_at_one<S: Solver>()
+    ensures { WorldIsAtOne S }
+{}
+
+/// The copies of a world's trees stand for the grid and the field that it is at.
+pub fn world_stands<S: Solver>()
+    ensures { WorldStands S }
+{}

@@ -1,0 +1,12 @@
+//! The world: the stores of all trees, which stand for a grid and a field and go from step to step by sweeps of each tree
+//! and exchanges between them.
+#![tactic(auto)]
+
+mod along;
+mod exchanging;
+mod keys;
+pub mod laws;
+mod raising;
+mod world;
+
+pub use world::World;

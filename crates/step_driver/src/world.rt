@@ -1,0 +1,120 @@
+//! The world.
+ghost use Rattle.std.specs.Prelude.{◌≡◌, ◌≤◌, IfOk, length};
+ghost use Rattle.peano_keys.specs.Grid.{IsGrid};
+ghost use Rattle.spacetree.specs.Fields.{IsFieldOn};
+ghost use Rattle.curve_cuts.specs.Keys.{cuts_of};
+ghost use Rattle.step_world.specs.Notes.{note_raised, by_trees};
+ghost use Rattle.step_driver.specs.Notes.{sizes_of};
+ghost use Rattle.step_driver.specs.Worlds.{IsAt};
+ghost use Rattle.step_driver.specs.Starts.{AreFirstKeys};
+
+use crate::keys::first_keys;
+use crate::raising::{Forest, plant};
+use curve_cuts::Keys;
+use solver_api::Solver;
+use spacetree::{Field, Grid};
+use std::alloc::{AllocError, Global};
+use std::marker::Model;
+use vertex_stacks::SweepNote;
+
+/// A grid and a field in the stores of 1 to 64 trees, with the solver that leads them from step to step. Contracts see
+/// the solver, the keys and the stores of the trees, the number of cells, the step, the notes of all sweeps, and whether
+/// the world is live; the grid and the field are those that the stores stand for.
+#[derive(Drop)]
+pub struct World<S: Solver> {
+    solver: S,
+    keys: Keys,
+    forest: Forest,
+    cells: u64,
+    step: u32,
+    live: bool,
+}
+
+impl<S: Solver> Model for World<S> {
+    ghost use Rattle.std.specs.Prelude.{◌≤◌};
+    ghost use Rattle.step_driver.specs.Worlds.{Seen};
+
+    ghost Value = { Seen S };
+
+    ghost view = { λ w. record {
+      solver = w.solver;
+      keys = w.keys;
+      stores = w.forest.stores.items;
+      cells = w.cells;
+      step = w.step;
+      notes = w.forest.notes.items;
+      live = w.live;
+    } };
+
+    ghost invariant = { λ w. S.deepest_of w.solver ≤ w.keys.depth };
+}
+
+impl<S: Solver> World<S> {
+    /// A world at a grid of a depth and its field, cut into so many trees, each with an equal share of the leaves. May want
+    /// memory alone.
+    pub fn start(
+        alloc: Global,
+        depth: u32,
+        grid: &Grid,
+        field: &Field,
+        solver: S,
+        trees: u32,
+    ) -> Result<World<S>, AllocError>
+        requires depth { depth ≤ 12 }
+        requires deepest { S.deepest_of solver ≤ depth }
+        requires grid { IsGrid depth grid.now }
+        requires field { IsFieldOn (S.parts_of solver) grid.now field.now }
+        requires some { 1 ≤ trees }
+        requires most { trees ≤ 64 }
+        ensures at { IfOk result (λ world. IsAt (S.parts_of solver) world grid.now field.now 0) }
+        ensures solver { IfOk result (λ world. world.solver ≡ solver) }
+        ensures keys { IfOk result (λ world. AreFirstKeys depth grid.now trees world.keys) }
+        ensures notes { IfOk result (λ world. world.notes ≡ by_trees trees (note_raised (sizes_of (cuts_of world.keys)) grid.now)) }
+    {
+        let keys = first_keys(alloc, depth, grid, trees)?;
+        let forest = plant(alloc, grid, field, &keys)?;
+        Ok(World {
+            solver,
+            keys,
+            forest,
+            cells: grid.cell_count(),
+            step: 0,
+            live: true,
+        })
+    }
+
+    /// How many steps were taken.
+    pub fn step(&self) -> u32
+        ensures { result ≡ self.now.step }
+    {
+        self.step
+    }
+
+    /// How many trees there are.
+    pub fn trees(&self) -> u32
+        ensures { result ≡ (cuts_of self.now.keys).trees }
+    {
+        self.keys.trees()
+    }
+
+    /// How many cells the grid has.
+    pub fn cell_count(&self) -> u64
+        ensures { result ≡ self.now.cells }
+    {
+        self.cells
+    }
+
+    /// Whether no step and no showing was refused.
+    pub fn is_live(&self) -> bool
+        ensures { result ≡ self.now.live }
+    {
+        self.live
+    }
+
+    /// The notes of all sweeps, in their order.
+    pub fn notes(&self) -> &[SweepNote]
+        ensures { result.now ≡ self.now.notes }
+    {
+        self.forest.notes.as_slice()
+    }
+}
