@@ -7,3 +7,6 @@ mod Forward
 mod Found
 mod Trees
 mod Desks
+mod Begun
+mod Toured
+mod Borders

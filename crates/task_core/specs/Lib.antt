@@ -1,7 +1,9 @@
 pub use Rattle.result_table.specs.Words
 pub mod Core
 pub mod Opening
+pub mod Visits
 pub mod Work
+pub mod Tours
 pub mod Replies
 pub mod Laws
 pub mod Desks

@@ -3,13 +3,16 @@
 #![tactic(auto)]
 
 mod answers;
+mod border;
 mod calls;
 mod event;
 mod forest;
 pub mod laws;
 mod machine;
+mod making;
 mod stop;
 mod tree;
+mod visits;
 
 pub use event::{Event, Reply, Sweep};
 pub use machine::Core;
