@@ -6,3 +6,5 @@ pub mod Notes
 pub mod Standing
 pub mod Starts
 pub mod Begins
+pub mod Least
+pub mod Computed

@@ -4,3 +4,4 @@ pub mod Boxes
 pub mod Notes
 pub mod Worlds
 pub mod Starts
+pub mod Computing

@@ -3,6 +3,7 @@
 #![tactic(auto)]
 
 mod along;
+mod computing;
 mod exchanging;
 mod keys;
 pub mod laws;
