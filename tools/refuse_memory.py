@@ -1,61 +1,87 @@
 #!/usr/bin/env python3
-"""Refuses the program's requests for memory one by one, and checks each answer. Run by hand; it needs rt on the path.
+"""Refuses the built program's requests for memory one by one, and checks each answer. Run by hand, after a build; it needs
+a C compiler (cc), for a library of twenty lines that stands before malloc and realloc.
 
     tools/refuse_memory.py examples/single_cell.toml examples/centre_pulse.toml
-    tools/refuse_memory.py --words '--trees 2' examples/centre_pulse.toml
+    tools/refuse_memory.py --program crates/peano/out/peano --words '--trees 2' examples/refined_centre.toml
 
-For each file the program is run again and again, with its 1st, 2nd, 3rd, .. allocation failing (rt try --fail-alloc N). Each
-run must either write its whole report, as it does with ample memory, or end with status 8, say 'out of memory' and write
-nothing. It goes on until so many runs in a row wrote the whole report (--past, 12 unless told otherwise). Ends with status 1
-where an answer is another one. Takes some seconds a run.
+For each file the program is run once with ample memory, which counts its requests, and then once for each request, which is
+refused. Each run must either write its whole report, as it does with ample memory, or end with status 8, say 'out of memory'
+and write nothing. Ends with status 1 where an answer is another one.
 """
 import argparse
 import os
-import re
 import subprocess
 import sys
+import tempfile
 import time
 
-CRATE = os.path.join(os.path.dirname(os.path.abspath(__file__)), "..", "crates", "peano")
+TOP = os.path.join(os.path.dirname(os.path.abspath(__file__)), "..")
+
+SHIM = r"""
+#define _GNU_SOURCE
+#include <dlfcn.h>
+#include <stdio.h>
+#include <stdlib.h>
+static unsigned long asked, refused;
+static int is_refused(void) {
+    if (!asked++) refused = getenv("REFUSED") ? strtoul(getenv("REFUSED"), 0, 10) : 0;
+    return asked == refused;
+}
+void *malloc(size_t size) {
+    static void *(*real)(size_t);
+    if (!real) real = (void *(*)(size_t))dlsym(RTLD_NEXT, "malloc");
+    return is_refused() ? 0 : real(size);
+}
+void *realloc(void *old, size_t size) {
+    static void *(*real)(void *, size_t);
+    if (!real) real = (void *(*)(void *, size_t))dlsym(RTLD_NEXT, "realloc");
+    return is_refused() ? 0 : real(old, size);
+}
+__attribute__((destructor)) static void count(void) {
+    FILE *told = getenv("COUNTED") ? fopen(getenv("COUNTED"), "w") : 0;
+    if (told) { fprintf(told, "%lu", asked); fclose(told); }
+}
+"""
 
 
-def run(path, words, refused):
-    """Status, output and text of a run in which one allocation fails; none where `refused` is 0."""
-    command = ["rt", "try", *(["--fail-alloc", str(refused)] if refused else []), "--", *words]
+def run(command, path, shim, more):
+    """Status, output and text of a run."""
     with open(path, "rb") as file:
-        ended = subprocess.run(command, cwd=CRATE, stdin=file, capture_output=True, check=False)
+        env = {**os.environ, "LD_PRELOAD": shim, **more}
+        ended = subprocess.run(command, stdin=file, capture_output=True, check=False, env=env)
     return ended.returncode, ended.stdout, ended.stderr.decode("utf-8", "replace")
 
 
 def fault(ended, whole):
-    """What is wrong with a run, or None; and whether it wrote what it writes with ample memory."""
+    """What is wrong with a run, or None where it wrote its whole report or was refused as it must be."""
     status, output, text = ended
-    if (status, output) == whole[:2]:
-        return None, True
+    if ended == whole:
+        return None
     if status != 8:
-        return f"status {status}", False
+        return f"status {status}"
     if output:
-        return f"wrote {len(output)} bytes before it was refused", False
-    if not re.search(r"(?m)^out of memory$", text):
-        return "does not say 'out of memory'", False
-    return None, False
+        return f"wrote {len(output)} bytes before it was refused"
+    return None if text == "out of memory\n" else f"says {text!r}"
 
 
-def check(path, words, past):
+def check(command, path, shim, folder):
     """Refuses each request for memory of a run; the number of faults."""
     begun = time.monotonic()
-    whole = run(path, words, 0)
-    faults = refused = ample = number = 0
-    while ample < past:
-        number += 1
-        wrong, is_whole = fault(run(path, words, number), whole)
-        ample = ample + 1 if is_whole else 0
-        refused += not is_whole
+    counted = os.path.join(folder, "counted")
+    whole = run(command, path, shim, {"COUNTED": counted})
+    with open(counted, encoding="utf-8") as file:
+        requests = int(file.read())
+    faults = refused = 0
+    for number in range(1, requests + 1):
+        ended = run(command, path, shim, {"REFUSED": str(number)})
+        wrong = fault(ended, whole)
+        refused += ended[0] == 8
         if wrong:
             faults += 1
-            print(f"{path}: allocation {number}: {wrong}")
+            print(f"{path}: request {number}: {wrong}")
     seconds = time.monotonic() - begun
-    print(f"{path}: of {number - past} allocations {refused} were refused with status 8 and no output, {seconds:.0f} s")
+    print(f"{path}: of {requests} requests {refused} were refused with status 8 and no output, {seconds:.0f} s")
     return faults
 
 
@@ -63,10 +89,14 @@ def main():
     """The command line."""
     parser = argparse.ArgumentParser(description=__doc__, formatter_class=argparse.RawDescriptionHelpFormatter)
     parser.add_argument("files", nargs="+", help="files to run")
+    parser.add_argument("--program", default=os.path.join(TOP, "crates", "peano", "out", "peano"), help="the built program")
     parser.add_argument("--words", default="", help="words of the command line, in one argument")
-    parser.add_argument("--past", type=int, default=12, help="whole reports in a row after which it ends")
     given = parser.parse_args()
-    sys.exit(sum(check(path, given.words.split(), given.past) for path in given.files) > 0)
+    with tempfile.TemporaryDirectory() as folder:
+        shim = os.path.join(folder, "shim.so")
+        subprocess.run(["cc", "-O1", "-shared", "-fPIC", "-o", shim, "-xc", "-", "-ldl"], input=SHIM.encode(), check=True)
+        command = [given.program, *given.words.split()]
+        sys.exit(sum(check(command, path, shim, folder) for path in given.files) > 0)
 
 
 if __name__ == "__main__":

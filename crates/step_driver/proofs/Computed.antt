@@ -26,6 +26,7 @@ use Rattle.step_driver.specs.Notes.{sizes_of}
 use Rattle.step_driver.specs.Computing.{AllStandOn, IsComputedAt, IsComputedTree, AreComputed, least_with}
 use Rattle.step_driver.proofs.Changes.{none_changed, one_more}
 use Rattle.step_driver.proofs.Counts.{note_plain}
+use Rattle.step_driver.proofs.Notes.{one_noted}
 use Rattle.step_driver.proofs.Least.{found_with, here, there, least_more}
 
 -- what is so of an answer that is there
@@ -77,14 +78,6 @@ module _ (kernel : Kernel) (k : Cuts) (step : ℕ) where
     pub gives_tree : (t : ℕ) (x y : TreeLists) (note : Note) (tally : Tally) → x.tree ≡ t → IsPrimarySwept kernel k dir g f step x y note tally → GivesTree t x y note tally
     gives_tree t x y note tally is h = subst (λ n. GivesTree n x y note tally) is (gives_own x y note tally h)
 
-    next : (n : ℕ) → suc n ≡ n + 1
-    next n = omega arith
-
-    grown : (m : ℕ) (old : List Note) (x : Note) → x ≡ mine m → (old ++ by_trees m mine) ++ x ∷ [] ≡ old ++ by_trees (m + 1) mine
-    grown m old x e =
-        let last : old ++ (by_trees m mine ++ x ∷ []) ≡ old ++ by_trees (suc m) mine = ap (λ (y : Note). old ++ (by_trees m mine ++ y ∷ [])) e in
-        append_assoc old (by_trees m mine) (x ∷ []) ∙ (last ∙ ap (λ n. old ++ by_trees n mine) (next m))
-
     -- and then one more
     pub computed_more : (m : ℕ) (before now new : List TreeLists) (old notes : List Note) (note : Note) (tally : Tally) (failing : Option CellKey) → AllStandOn k kernel.parts dir g f before → m < k.trees →
         AreComputed kernel k dir g f step m before now old notes failing → IsComputedAt kernel k step m now new note tally → AreComputed kernel k dir g f step (m + 1) before new old (notes ++ note ∷ []) (least_with failing tally.failing)
@@ -96,7 +89,7 @@ module _ (kernel : Kernel) (k : Cuts) (step : ℕ) where
         let one : ChangesTree (IsComputedTree kernel k dir g f step) m now new = record { count = at.count; changed = gives.tree; others = at.others } in
         record {
           trees = one_more (IsComputedTree kernel k dir g f step) m before now new h.trees one;
-          noted = ap (λ (xs : List Note). xs ++ note ∷ []) h.noted ∙ grown m old note gives.note_is;
+          noted = ap (λ (xs : List Note). xs ++ note ∷ []) h.noted ∙ one_noted mine m old note gives.note_is;
           found = found_with m tally.failing h.found;
           tells = λ t inside. ⊎_elim
               (λ e. subst (λ n. FailsInTree k kernel.updated g f n (found_with m tally.failing h.found n)) (sym e) (subst (λ (o : Option CellKey). FailsInTree k kernel.updated g f m o) (sym (here m tally.failing h.found)) gives.failing))

@@ -8,3 +8,6 @@ pub mod Starts
 pub mod Begins
 pub mod Least
 pub mod Computed
+pub mod Finished
+pub mod Pend
+pub mod Marked

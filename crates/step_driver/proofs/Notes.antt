@@ -1,5 +1,5 @@
 -- The notes of trees, and the tales that they make.
-use Rattle.std.proofs.Common.{◌≡◌, ◌≢◌, ℕ, zero, suc, ◌+◌, ◌<◌, ◌≤◌, ◌==◌, Bool, true, false, cond, List, [], ◌∷◌, ◌++◌, filter, refl, ap, ap₂, sym, ◌∙◌, ⊎_elim, arith}
+use Rattle.std.proofs.Common.{append_assoc, ◌≡◌, ◌≢◌, ℕ, zero, suc, ◌+◌, ◌<◌, ◌≤◌, ◌==◌, Bool, true, false, cond, List, [], ◌∷◌, ◌++◌, filter, refl, ap, ap₂, sym, ◌∙◌, ⊎_elim, arith}
 use Rattle.std.proofs.lemmas.Bool.{cases_eq, eq-eqb, ne_eqb}
 use Rattle.std.proofs.lemmas.List.{append-nil}
 use Rattle.std.proofs.lemmas.List.Elements.{filter-append}
@@ -49,3 +49,12 @@ module _ (f : ℕ → Note) (number : (s : ℕ) → (f s).tree ≡ s) where
       ∙ ap (λ tale. with_note tale (f t)) (were t below)
       ∙ sym (grows.1 (notes_of t ns) (f t))
       ∙ ap tale_of (sym (split t ns (by_trees n f) ∙ ap (λ xs. notes_of t ns ++ xs) (one_each n t below)))
+
+pub next : (n : ℕ) → suc n ≡ n + 1
+next n = omega arith
+
+-- the notes of one tree more
+pub one_noted : (f : ℕ → Note) (m : ℕ) (old : List Note) (x : Note) → x ≡ f m → (old ++ by_trees m f) ++ x ∷ [] ≡ old ++ by_trees (m + 1) f
+one_noted f m old x e =
+    let last : old ++ (by_trees m f ++ x ∷ []) ≡ old ++ by_trees (suc m) f = ap (λ (y : Note). old ++ (by_trees m f ++ y ∷ [])) e in
+    append_assoc old (by_trees m f) (x ∷ []) ∙ (last ∙ ap (λ n. old ++ by_trees n f) (next m))

@@ -26,7 +26,7 @@ use Rattle.step_driver.specs.Notes.{sizes_of, HaveTales}
 use Rattle.step_driver.specs.Starts.{IsRaisedStore, IsRaisedWith, AreRaised, AreStarted}
 use Rattle.step_driver.proofs.Counts.{note_raising}
 use Rattle.step_driver.proofs.Exchanges.{lists_after, owners_taken, tale_stays}
-use Rattle.step_driver.proofs.Notes.{tales_grow}
+use Rattle.step_driver.proofs.Notes.{next, tales_grow}
 use Rattle.step_driver.proofs.Standing.{all_stand}
 
 -- a store as it is made
@@ -64,9 +64,6 @@ raised_store k g f t s u note fits is h =
     let raised : IsRaisedTree k g f 0 (new_store k.dim k.depth (range_of k t) t) u note = subst (λ z. IsRaisedTree k g f 0 z u note) is h in
     let noted : note ≡ note_raised (sizes_of k) g t = raised.noted.counts ∙ note_raising k g t fits in
     record { store = record { lists = raised.lists; slots = raised.slots; tale = raised.noted.tale ∙ ap (with_note no_tale) noted }; noted = noted }
-
-next : (n : ℕ) → suc n ≡ n + 1
-next n = omega arith
 
 -- one more raised tree
 pub raised_more : (k : Cuts) (g : Spacetree) (f : States) (n : ℕ) (stores : List TreeLists) (notes : List Note) (s : TreeLists) (note : Note) → AreRaised k g f n stores notes → IsRaisedWith k g f n s note → AreRaised k g f (n + 1) (stores ++ s ∷ []) (notes ++ note ∷ [])

@@ -5,3 +5,5 @@ pub mod Notes
 pub mod Worlds
 pub mod Starts
 pub mod Computing
+pub mod Finishing
+pub mod Pending

@@ -5,6 +5,7 @@
 mod along;
 mod computing;
 mod exchanging;
+mod finishing;
 mod keys;
 pub mod laws;
 mod raising;
