@@ -1,5 +1,5 @@
 //! Blocks as a reader of a report sees them.
-use super::field_text;
+use super::{Traffic, field_text, summary_text, traffic_text};
 use peano_keys::{CellKey, Dim, State};
 use spacetree::Row;
 use std::test::Fail;
@@ -39,5 +39,47 @@ fn prints_each_form_of_block(rt: HostRuntime) -> Result<(), Fail> {
         let text = field_text(rt.alloc(), dim, step, rows)?;
         assert_eq!(rt; text.as_slice(), want.as_bytes());
     }
+    Ok(())
+}
+
+#[test]
+fn prints_trees_and_summaries(rt: HostRuntime) -> Result<(), Fail> {
+    let alloc = rt.alloc();
+    let trees = [
+        Traffic {
+            tree: 0,
+            cells: 14,
+            stored: 23,
+            pushes: 22,
+            hanging: 11,
+            enclave: 4,
+            skeleton: 8,
+            sent: 9,
+        },
+        Traffic {
+            tree: 1,
+            cells: 15,
+            stored: 19,
+            pushes: 21,
+            hanging: 20,
+            enclave: 1,
+            skeleton: 12,
+            sent: 9,
+        },
+    ];
+    let want =
+        "traffic 2 trees 2\ntree 0 cells 14 stored 23 pushes 22 hanging 11 enclave 4 skeleton 8 sent 9\ntree 1 cells 15 stored 19 pushes 21 hanging 20 enclave 1 skeleton 12 sent 9\n";
+    assert_eq!(rt; traffic_text(alloc, 2, &trees)?.as_slice(), want.as_bytes());
+    let rows = [
+        row(1, [0, 1, 0], State::two(-10, 99)),
+        row(2, [2, 0, 0], State::two(7, -99)),
+        row(2, [2, 1, 0], State::two(3, 0)),
+    ];
+    let want =
+        "demo 18446744073709551615\nsteps 20\ncells 19\nleaves 3\nlow -10\nhigh 7\nlevel 0 leaves 0\nlevel 1 leaves 1\nlevel 2 leaves 2\nlevel 3 leaves 0\nlevel 4 leaves 0\nlevel 5 leaves 0\n";
+    assert_eq!(rt;
+        summary_text(alloc, u64::MAX, &rows, 19)?.as_slice(),
+        want.as_bytes()
+    );
     Ok(())
 }
