@@ -11,7 +11,7 @@ use Rattle.peano_curve.specs.declared.range.Range.{Range}
 use Rattle.stack_law.specs.Once.{IsIn}
 use Rattle.curve_cuts.specs.Cuts.{Cuts, IsCutGrid, range_of}
 use Rattle.vertex_stacks.specs.declared.kind.Kind.{Kind}
-use Rattle.vertex_stacks.specs.declared.kind.Kind.TheVariants.{Raise}
+use Rattle.vertex_stacks.specs.declared.kind.Kind.TheVariants.{Raise, Adapt}
 use Rattle.vertex_stacks.specs.Notes.{Note}
 use Rattle.vertex_stacks.specs.Tales.{capped}
 use Rattle.sweep_visits.specs.Plan.{SweepPlan, IsSweepPlan, dim_of, is_kept, is_stored, is_stored_in}
@@ -23,7 +23,11 @@ use Rattle.sweep_streams.proofs.Pushes.{streams_are_stored, pushes_are_runs_less
 use Rattle.tree_automaton.specs.AtRest.{plain_plan, raising_plan}
 use Rattle.tree_automaton.proofs.Lists.{no_items}
 use Rattle.adapt_sweep.specs.Noted.{note_of}
-use Rattle.step_world.specs.Notes.{note_over, note_raised}
+use Rattle.adapt_sweep.specs.Adapting.{adapting_plan}
+use Rattle.peano_keys.specs.declared.cell.CellKey.{CellKey}
+use Rattle.peano_keys.specs.Vertex.{IsVertex}
+use Rattle.peano_curve.specs.Run.{InRun}
+use Rattle.step_world.specs.Notes.{note_over, note_raised, note_adapted}
 use Rattle.step_driver.specs.Notes.{sizes_of}
 
 -- two lists of the same vertices have the same length
@@ -103,3 +107,49 @@ note_plain k g dir kind step t fits = same_note step kind t _ _ _ _ _ _ (takes_a
 -- and of a raising sweep
 pub note_raising : (k : Cuts) (g : Spacetree) (t : ℕ) → IsCutGrid k g → note_of (raising_plan k.depth (range_of k t) Forward g) Raise 0 t ≡ note_raised (sizes_of k) g t
 note_raising k g t fits = same_note 0 Raise t _ _ _ _ _ _ (raising_takes k.depth (range_of k t) g fits.deepest fits.grid) (raising_puts k.depth (range_of k t) g fits.deepest fits.grid) (raising_pushes k.depth (range_of k t) g fits.deepest fits.grid)
+
+-- so of a sweep from one grid to another
+module _ (depth : ℕ) (range : Range) (old new : Spacetree) (deep : depth ≤ 12) (old_grid : IsGrid depth old) (new_grid : IsGrid depth new) (same : old.dim ≡ new.dim) where
+  abbrev adapting : Direction → SweepPlan
+  adapting dir = adapting_plan depth range dir old new
+
+  is_adapting : (dir : Direction) → IsSweepPlan (adapting dir)
+  is_adapting dir = record { depth = deep; old = (old_grid, same); new = new_grid }
+
+  is_old : IsSweepPlan (plain_plan depth range Forward old)
+  is_old = record { depth = deep; old = (old_grid, refl); new = old_grid }
+
+  is_new : IsSweepPlan (plain_plan depth range Forward new)
+  is_new = record { depth = deep; old = (new_grid, refl); new = new_grid }
+
+  in_old : (dir : Direction) (v : VertexKey) → IsHeldVertex (adapting dir) (is_stored_in (Some old)) v → IsHeldVertex (plain_plan depth range Forward old) (is_stored_in (Some old)) v
+  in_old dir v h = record { vertex = subst (λ dim. IsVertex dim v) (sym same) h.vertex; passes = h.passes; held = subst (λ dim. (c : CellKey) × InRun dim v range depth c) (sym same) h.held }
+
+  from_old : (dir : Direction) (v : VertexKey) → IsHeldVertex (plain_plan depth range Forward old) (is_stored_in (Some old)) v → IsHeldVertex (adapting dir) (is_stored_in (Some old)) v
+  from_old dir v h = record { vertex = subst (λ dim. IsVertex dim v) same h.vertex; passes = h.passes; held = subst (λ dim. (c : CellKey) × InRun dim v range depth c) same h.held }
+
+  adapting_takes : (dir : Direction) → length (taken_by (moves_of (adapting dir))) ≡ length (taken_by (moves_of (plain_plan depth range Forward old)))
+  adapting_takes dir = same_many (adapting dir) (plain_plan depth range Forward old) (is_stored_in (Some old)) (is_stored_in (Some old)) _ _ (streams_are_stored (adapting dir) (is_adapting dir)).0 (streams_are_stored (plain_plan depth range Forward old) is_old).0
+      (in_old dir) (from_old dir)
+
+  adapting_puts : (dir : Direction) → length (put_by (moves_of (adapting dir))) ≡ length (taken_by (moves_of (plain_plan depth range Forward new)))
+  adapting_puts dir = same_many (adapting dir) (plain_plan depth range Forward new) (is_stored new) (is_stored_in (Some new)) _ _ (streams_are_stored (adapting dir) (is_adapting dir)).1 (streams_are_stored (plain_plan depth range Forward new) is_new).0
+      (λ v h. record { vertex = h.vertex; passes = h.passes; held = h.held }) (λ v h. record { vertex = h.vertex; passes = h.passes; held = h.held })
+
+  adapting_kept : (dir : Direction) (vs : List VertexKey) → ListsVertices (adapting dir) (is_kept (adapting dir)) vs → ListsVertices (adapting Forward) (is_kept (adapting Forward)) vs
+  adapting_kept dir vs l = record {
+    distinct = l.distinct;
+    members = λ v. (λ at. let h = (l.members v).0 at in record { vertex = h.vertex; passes = h.passes; held = h.held }, λ h. (l.members v).1 (record { vertex = h.vertex; passes = h.passes; held = h.held }));
+  }
+
+  adapting_pushes : (dir : Direction) → length (pushed_by (moves_of (adapting dir))) ≡ length (pushed_by (moves_of (adapting Forward)))
+  adapting_pushes dir =
+      let one = pushes_are_runs_less_one (adapting dir) (is_adapting dir) in
+      let two = pushes_are_runs_less_one (adapting Forward) (is_adapting Forward) in
+      one.1 one.0.0 one.0.1 ∙ sym (two.1 one.0.0 (adapting_kept dir one.0.0 one.0.1))
+
+-- the note of an adaptation sweep
+pub note_adapting : (k : Cuts) (old new : Spacetree) (dir : Direction) (step t : ℕ) → IsCutGrid k old → IsCutGrid k new → note_of (adapting_plan k.depth (range_of k t) dir old new) Adapt step t ≡ note_adapted (sizes_of k) step old new t
+note_adapting k old new dir step t fits next =
+    let same : old.dim ≡ new.dim = fits.dim ∙ sym next.dim in
+    same_note step Adapt t _ _ _ _ _ _ (adapting_takes k.depth (range_of k t) old new fits.deepest fits.grid next.grid same dir) (adapting_puts k.depth (range_of k t) old new fits.deepest fits.grid next.grid same dir) (adapting_pushes k.depth (range_of k t) old new fits.deepest fits.grid next.grid same dir)

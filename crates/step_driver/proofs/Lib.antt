@@ -11,3 +11,4 @@ pub mod Computed
 pub mod Finished
 pub mod Pend
 pub mod Marked
+pub mod AdaptedTrees

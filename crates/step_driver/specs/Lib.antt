@@ -7,3 +7,4 @@ pub mod Starts
 pub mod Computing
 pub mod Finishing
 pub mod Pending
+pub mod Adapting

@@ -2,6 +2,7 @@
 //! and exchanges between them.
 #![tactic(auto)]
 
+mod adapting;
 mod along;
 mod computing;
 mod exchanging;

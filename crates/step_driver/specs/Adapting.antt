@@ -1,0 +1,45 @@
+-- The adaptation sweeps of all trees, one tree after another.
+use Rattle.std.specs.Prelude.{◌≡◌, ◌≢◌, ℕ, ◌<◌, List, ◌++◌, length}
+use Rattle.peano_keys.specs.Grid.{Spacetree}
+use Rattle.peano_curve.specs.declared.order.Direction.{Direction}
+use Rattle.curve_cuts.specs.Cuts.{Cuts, range_of}
+use Rattle.vertex_stacks.specs.Notes.{Note}
+use Rattle.vertex_stacks.specs.Tales.{with_note}
+use Rattle.sweep_visits.specs.Runs.{turned_round}
+use Rattle.tree_automaton.specs.TreeLists.{TreeLists}
+use Rattle.tree_automaton.specs.AtRest.{HasLists, plain_plan}
+use Rattle.step_phases.specs.Change.{Change}
+use Rattle.step_phases.specs.Sweeps.{IsAdapted}
+use Rattle.swept_slots.specs.Copies.{copies}
+use Rattle.adapt_sweep.specs.Adapting.{CanBeAdapted, IsAdaptedTree}
+use Rattle.step_world.specs.Notes.{note_adapted, by_trees}
+use Rattle.step_driver.specs.Stores.{store_of, ChangesFirst}
+use Rattle.step_driver.specs.Notes.{sizes_of}
+
+-- the store of each tree stands before the adaptation that a change makes, and all are read in one direction
+pub record AllCanAdapt (k : Cuts) (dir : Direction) (w : Change) (stores : List TreeLists) : Type 0 where
+  pub count : length stores ≡ k.trees
+  pub number : (t : ℕ) → t < k.trees → (store_of stores t).tree ≡ t
+  pub way : (t : ℕ) → t < k.trees → (store_of stores t).dir ≡ dir
+  pub each : (t : ℕ) → t < k.trees → CanBeAdapted k w (store_of stores t)
+
+-- for some change to a grid
+abbrev pub AllCanTake : Cuts → Spacetree → List TreeLists → Type 0
+AllCanTake k new stores = (dir : Direction) × (w : Change) × (w.new ≡ new) × AllCanAdapt k dir w stores
+
+-- one tree was swept, and the stores of all others are as they were
+pub record IsAdaptedAt (k : Cuts) (new : Spacetree) (step t : ℕ) (before after : List TreeLists) (note : Note) : Type 0 where
+  pub count : length after ≡ length before
+  pub adapted : (w : Change) → w.new ≡ new → CanBeAdapted k w (store_of before t) → IsAdaptedTree k w step (store_of before t) (store_of after t) note
+  pub others : (s : ℕ) → s ≢ t → store_of after s ≡ store_of before s
+
+-- what an adaptation sweep makes of the store of a tree: it has the lists of the new grid, read the other way; its copies are adapted; and the tale has one note more
+pub record IsAdaptedStore (k : Cuts) (dir : Direction) (w : Change) (step t : ℕ) (before after : TreeLists) : Type 0 where
+  pub lists : HasLists (plain_plan k.depth (range_of k t) (turned_round dir) w.new) t after
+  pub slots : IsAdapted k w t (copies before.lanes.input) (copies after.lanes.input)
+  pub tale : after.lanes.tale ≡ with_note before.lanes.tale (note_adapted (sizes_of k) step w.old w.new t)
+
+-- so the stores of the first trees, and their notes
+pub record AreAdapted (k : Cuts) (dir : Direction) (w : Change) (step m : ℕ) (before after : List TreeLists) (old notes : List Note) : Type 0 where
+  pub trees : ChangesFirst (IsAdaptedStore k dir w step) m before after
+  pub noted : notes ≡ old ++ by_trees m (note_adapted (sizes_of k) step w.old w.new)
