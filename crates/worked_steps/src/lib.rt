@@ -3,6 +3,10 @@
 #![tactic(auto)]
 
 #[cfg(test)]
+mod history;
+#[cfg(test)]
 mod nine_leaves;
+#[cfg(test)]
+mod random_tests;
 #[cfg(test)]
 mod tests;
