@@ -78,7 +78,7 @@ fn compare(
 
 #[test]
 fn random_lists_agree_with_their_history(rt: HostRuntime) -> Result<(), AllocError> {
-    for seed in 0..25 {
+    for seed in 0..100 {
         for dir in [Direction::Forward, Direction::Backward] {
             compare(&rt, rt.alloc(), 1, dir, seed)?;
             compare(&rt, rt.alloc(), 2, dir, seed)?;
