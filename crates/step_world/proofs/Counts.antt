@@ -22,7 +22,7 @@ use Rattle.step_phases.proofs.Grids.{level_in}
 use Rattle.step_world.proofs.Exists.{or_left, or_after, or_one, among_first, among_second, merges_told, next_exists}
 
 -- a set with the cells of a list
-abbrev with_all : Cells → List CellKey → Cells
+abbrev pub with_all : Cells → List CellKey → Cells
 with_all s [] = s
 with_all s (c ∷ cs) = set.insert (with_all s cs) c
 
@@ -35,11 +35,11 @@ or_false : (a : Bool) → a ≡ (a || false)
 or_false true = refl
 or_false false = refl
 
-has_all : (s : Cells) (cs : List CellKey) (q : CellKey) → set.contains (with_all s cs) q ≡ (set.contains s q || is_among cs q)
+pub has_all : (s : Cells) (cs : List CellKey) (q : CellKey) → set.contains (with_all s cs) q ≡ (set.contains s q || is_among cs q)
 has_all s [] q = or_false (set.contains s q)
 has_all s (c ∷ cs) q = set.contains-insert cells_total (with_all s cs) c q ∙ ap (λ b. eq_by_cmp key_cmp q c || b) (has_all s cs q) ∙ or_swap (eq_by_cmp key_cmp q c) (set.contains s q) (is_among cs q)
 
-false_by : (b : Bool) → (b ≡ true → ⊥) → b ≡ false
+pub false_by : (b : Bool) → (b ≡ true → ⊥) → b ≡ false
 false_by true h = absurd (h refl)
 false_by false h = refl
 
@@ -47,7 +47,7 @@ itself_first : (c : CellKey) (cs : List CellKey) → is_among (c ∷ cs) c ≡ t
 itself_first c cs = or_left (eq_by_cmp key_cmp c c) (is_among cs c) (itself c)
 
 -- as many more as the list has, where none of them was there
-many : (s : Cells) (cs : List CellKey) → EachOnce cs → ((c : CellKey) → is_among cs c ≡ true → set.contains s c ≡ true → ⊥) → set.len (with_all s cs) ≡ set.len s + length cs
+pub many : (s : Cells) (cs : List CellKey) → EachOnce cs → ((c : CellKey) → is_among cs c ≡ true → set.contains s c ≡ true → ⊥) → set.len (with_all s cs) ≡ set.len s + length cs
 many s [] once apart = omega arith
 many s (c ∷ cs) once apart =
     let fresh : set.contains (with_all s cs) c ≡ false = has_all s cs c ∙ ap (λ b. set.contains s c || b) once.0 ∙ sym (or_false (set.contains s c)) ∙ false_by (set.contains s c) (λ h. apart c (itself_first c cs) h) in

@@ -67,7 +67,7 @@ cell_told dim c =
       ]
     ]
 
-true_told : (b : Bool) → Told (b ≡ true)
+pub true_told : (b : Bool) → Told (b ≡ true)
 true_told true = inl refl
 true_told false = inr (λ h. false≢true h)
 
@@ -174,7 +174,7 @@ pub among_second : (xs ys : List CellKey) (q : CellKey) → is_among ys q ≡ tr
 among_second [] ys q h = h
 among_second (x ∷ xs) ys q h = or_after _ _ (among_second xs ys q h)
 
-abbrev upto : ℕ → (ℕ → CellKey) → List CellKey
+abbrev pub upto : ℕ → (ℕ → CellKey) → List CellKey
 upto zero f = []
 upto (suc n) f = f n ∷ upto n f
 
@@ -185,7 +185,7 @@ among_upto (suc n) f k h = ⊎_elim
     (λ other. or_after (eq_by_cmp key_cmp (f k) (f n)) (is_among (upto n f) (f k)) (among_upto n f k (omega (arith, h, other))))
     (cases_eq k n)
 
-abbrev cells_under : Dim → List CellKey → List CellKey
+abbrev pub cells_under : Dim → List CellKey → List CellKey
 cells_under dim [] = []
 cells_under dim (p ∷ ps) = upto (3 ^ axes dim) (λ n. child_of p (digits_at dim n)) ++ cells_under dim ps
 
@@ -198,17 +198,21 @@ among_under dim (p ∷ ps) c cell deep h = ⊎_elim
     (λ b. among_second (upto (3 ^ axes dim) (λ n. child_of p (digits_at dim n))) (cells_under dim ps) c (among_under dim ps c cell deep b))
     (or_one (eq_by_cmp key_cmp (parent_of c) p) (is_among ps (parent_of c)) h)
 
+-- a list that has all cells of a grid, from one of its refined cells
+pub listed_under : (g : Spacetree) (ps : List CellKey) → ((q : CellKey) → is_refined g q ≡ true → is_among ps q ≡ true) → (c : CellKey) → IsCell g.dim c → has_cell g c ≡ true → is_among (root ∷ cells_under g.dim ps) c ≡ true
+listed_under g ps all c cell there = ⊎_elim
+    (λ e. or_left (eq_by_cmp key_cmp c root) (is_among (cells_under g.dim ps) c) (ap (λ q. eq_by_cmp key_cmp q root) (root_is g.dim c cell e) ∙ itself root))
+    (λ apart.
+    let below : 0 < c.level = omega (arith, apart) in
+    or_after (eq_by_cmp key_cmp c root) (is_among (cells_under g.dim ps) c) (among_under g.dim ps c cell below (all (parent_of c) (parent_refined g c below there))))
+    (cases_eq c.level 0)
+
 -- all cells of a grid
 abbrev all_cells : Spacetree → List CellKey
 all_cells g = root ∷ cells_under g.dim (set.items g.refined)
 
 listed : (g : Spacetree) (c : CellKey) → IsCell g.dim c → has_cell g c ≡ true → is_among (all_cells g) c ≡ true
-listed g c cell there = ⊎_elim
-    (λ e. or_left (eq_by_cmp key_cmp c root) (is_among (cells_under g.dim (set.items g.refined)) c) (ap (λ q. eq_by_cmp key_cmp q root) (root_is g.dim c cell e) ∙ itself root))
-    (λ apart.
-    let below : 0 < c.level = omega (arith, apart) in
-    or_after (eq_by_cmp key_cmp c root) (is_among (cells_under g.dim (set.items g.refined)) c) (among_under g.dim (set.items g.refined) c cell below (sym (set.contains-items g.refined (parent_of c)) ∙ parent_refined g c below there)))
-    (cases_eq c.level 0)
+listed g c cell there = listed_under g (set.items g.refined) (λ q h. sym (set.contains-items g.refined q) ∙ h) c cell there
 
 -- the set of those cells of a list of which something is true
 abbrev Collects : (CellKey → Type 0) → List CellKey → Cells → Type 0

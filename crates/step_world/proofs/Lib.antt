@@ -4,3 +4,4 @@ pub mod Parts
 pub mod Failing
 pub mod Counts
 pub mod Notes
+pub mod AtMost

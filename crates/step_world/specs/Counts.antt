@@ -1,12 +1,12 @@
 -- How many leaves there are and how many cells split and merge, tree by tree and together, and the size of the next grid.
-use Rattle.std.specs.Prelude.{◌≡◌, ◌↔◌, ℕ, zero, suc, ◌+◌, ◌*◌, ◌^◌, ◌<◌, true, false, List, [], ◌∷◌, length, IsSome}
+use Rattle.std.specs.Prelude.{◌≡◌, ◌↔◌, ℕ, zero, suc, ◌+◌, ◌*◌, ◌^◌, ◌<◌, ◌≤◌, true, false, List, [], ◌∷◌, length, IsSome}
 use Rattle.peano_keys.specs.declared.cell.CellKey.{CellKey}
 use Rattle.peano_keys.specs.declared.side.Mark.{Mark}
 use Rattle.peano_keys.specs.Dim.{axes}
 use Rattle.peano_keys.specs.Grid.{Spacetree, IsGrid}
 use Rattle.peano_keys.specs.Next.{Splits, Merges, IsNextGrid}
 use Rattle.spacetree.specs.Counts.{cells_of}
-use Rattle.spacetree.specs.Leaves.{is_among}
+use Rattle.spacetree.specs.Leaves.{is_among, IsCellOf}
 use Rattle.peano_keys.specs.Field.{States}
 use Rattle.solver_api.specs.Step.{UpdateRule, MarkRule, IsLeafOf, marks_of, new_state}
 use Rattle.spacetree.specs.Evaluation.{Crowds}
@@ -40,6 +40,10 @@ SplitsAddUp = (k : Cuts) (g : Spacetree) (marks : CellKey → Mark) (n : ℕ →
 -- and those that merge
 abbrev pub MergesAddUp : Type 0
 MergesAddUp = (k : Cuts) (g : Spacetree) (marks : CellKey → Mark) (n : ℕ → ℕ) → IsCutGrid k g → ((t : ℕ) → t < k.trees → CountsCells (λ c. Owns k t c × Merges g marks c) (n t)) → CountsCells (Merges g marks) (total k.trees n)
+
+-- cells of a grid, none of them twice, are no more than the grid has
+abbrev pub CountsAtMost : Type 0
+CountsAtMost = (g : Spacetree) (cells : List CellKey) → EachOnce cells → ((c : CellKey) → is_among cells c ≡ true → IsCellOf g c) → length cells ≤ cells_of g
 
 -- the size of the next grid: that of the old one, with the children of each cell that splits and without those of each that merges
 abbrev pub NextSize : Type 0

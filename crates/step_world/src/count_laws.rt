@@ -1,6 +1,6 @@
 //! Laws of what the trees find together.
 ghost use Rattle.step_world.specs.Failing.{LeastOverTrees};
-ghost use Rattle.step_world.specs.Counts.{LeavesAddUp, SplitsAddUp, MergesAddUp, NextSize, SizeDecides};
+ghost use Rattle.step_world.specs.Counts.{LeavesAddUp, SplitsAddUp, MergesAddUp, CountsAtMost, NextSize, SizeDecides};
 
 /// The least of the trees' failing leaves is the least of all, and where none fails in a tree none fails.
 pub fn least_over_trees()
@@ -20,6 +20,11 @@ pub fn splits_add_up()
 /// The cells that merge are those of the trees together.
 pub fn merges_add_up()
     ensures { MergesAddUp }
+{}
+
+/// Cells of a grid are no more than the grid has.
+pub fn counts_at_most()
+    ensures { CountsAtMost }
 {}
 
 /// The size of the next grid follows from the splits and the merges.

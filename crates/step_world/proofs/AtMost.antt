@@ -1,0 +1,103 @@
+-- Cells of a grid are no more than the grid has.
+use Rattle.std.proofs.Common.{◌≡◌, ℕ, zero, suc, ◌+◌, ◌*◌, ◌^◌, ◌≤◌, ◌||◌, Bool, true, false, inl, inr, refl, sym, ap, ◌∙◌, arith, List, [], ◌∷◌, length, length-append}
+use Rattle.std.specs.FinSet as set
+use Rattle.std.specs.Ordering.{eq_by_cmp}
+use Rattle.std.proofs.lemmas.Bool.{false≢true}
+use Rattle.peano_keys.specs.declared.dim.Dim.{Dim}
+use Rattle.peano_keys.specs.declared.cell.CellKey.{CellKey}
+use Rattle.peano_keys.specs.declared.side.Mark.{Mark}
+use Rattle.peano_keys.specs.Dim.{axes}
+use Rattle.peano_keys.specs.Cell.{child_of, root, key_cmp}
+use Rattle.peano_keys.specs.Grid.{Spacetree, IsGrid}
+use Rattle.peano_keys.specs.Next.{Splits, Merges}
+use Rattle.hanging_nodes.proofs.TwoGrids.{refined_there}
+use Rattle.spacetree.specs.Counts.{cells_of}
+use Rattle.spacetree.specs.Digits.{IsKept, digits_at}
+use Rattle.spacetree.specs.Leaves.{is_among, IsCellOf}
+use Rattle.spacetree.proofs.CellCounts.{len_by_kept}
+use Rattle.spacetree.proofs.CellMaps.{cells_total, exact_cells}
+use Rattle.spacetree.proofs.CellSets.{same_key, len_by_insert}
+use Rattle.spacetree.proofs.Leaves.{leaf_there}
+use Rattle.step_world.specs.Counts.{EachOnce, CountsCells, CountsAtMost}
+use Rattle.step_world.proofs.Counts.{with_all, has_all, false_by, many}
+use Rattle.step_world.proofs.Exists.{true_told, upto, cells_under, listed_under}
+
+-- a cell that is listed once more
+again : (k q : CellKey) (ks : List CellKey) → is_among ks k ≡ true → is_among ks q ≡ (eq_by_cmp key_cmp q k || is_among ks q)
+again k q ks there = by (eq_by_cmp key_cmp q k) refl where
+  by : (b : Bool) → eq_by_cmp key_cmp q k ≡ b → is_among ks q ≡ (b || is_among ks q)
+  by true e = ap (is_among ks) (same_key q k e) ∙ there
+  by false e = refl
+
+-- the cells of a list, each once
+once_of : (ks : List CellKey) → (rs : List CellKey) × EachOnce rs × ((q : CellKey) → is_among rs q ≡ is_among ks q)
+once_of [] = ([], tt, λ q. refl)
+once_of (k ∷ ks) =
+    let rest = once_of ks in
+    elim (true_told (is_among ks k)) [
+      | inl there ↦ (rest.0, rest.1, λ q. rest.2 q ∙ again k q ks there)
+      | inr apart ↦ (k ∷ rest.0, (rest.2 k ∙ false_by (is_among ks k) apart, rest.1), λ q. ap (λ b. eq_by_cmp key_cmp q k || b) (rest.2 q))
+    ]
+
+-- the set of a list's cells
+in_list : (cs : List CellKey) (q : CellKey) → set.contains (with_all set.empty cs) q ≡ is_among cs q
+in_list cs q = has_all set.empty cs q ∙ ap (λ b. b || is_among cs q) (set.contains-empty key_cmp q)
+
+-- has no more cells than the list,
+no_more : (cs : List CellKey) → set.len (with_all set.empty cs) ≤ length cs
+no_more [] = omega (arith, set.len-empty key_cmp)
+no_more (c ∷ cs) = omega (arith, len_by_insert (with_all set.empty cs) c, no_more cs)
+
+-- and as many where none stands twice
+as_many : (cs : List CellKey) → EachOnce cs → set.len (with_all set.empty cs) ≡ length cs
+as_many cs once = many set.empty cs once (λ c h i. false≢true (sym (set.contains-empty key_cmp c) ∙ i)) ∙ omega (arith, set.len-empty key_cmp)
+
+-- the refined cells of a grid as a list
+abbrev refined_cells : Spacetree → List CellKey
+refined_cells g = (once_of (set.items g.refined)).0
+
+refined_listed : (g : Spacetree) (q : CellKey) → is_among (refined_cells g) q ≡ set.contains g.refined q
+refined_listed g q = (once_of (set.items g.refined)).2 q ∙ sym (set.contains-items g.refined q)
+
+length_refined : (g : Spacetree) → length (refined_cells g) ≡ set.len g.refined
+length_refined g = sym (as_many (refined_cells g) (once_of (set.items g.refined)).1) ∙ ap set.len (set.same_set cells_total exact_cells _ _ (λ q. in_list (refined_cells g) q ∙ refined_listed g q))
+
+-- and all its cells
+abbrev all_cells : Spacetree → List CellKey
+all_cells g = root ∷ cells_under g.dim (refined_cells g)
+
+length_upto : (n : ℕ) (f : ℕ → CellKey) → length (upto n f) ≡ n
+length_upto zero f = refl
+length_upto (suc n) f = ap suc (length_upto n f)
+
+length_under : (dim : Dim) (ps : List CellKey) → length (cells_under dim ps) ≡ 3 ^ axes dim * length ps
+length_under dim [] = omega arith
+length_under dim (p ∷ ps) =
+    let fan : ℕ = 3 ^ axes dim in
+    let here = length_upto fan (λ n. child_of p (digits_at dim n)) in
+    let both = length-append (upto fan (λ n. child_of p (digits_at dim n))) (cells_under dim ps) in
+    let rest = length_under dim ps in
+    let more : fan * suc (length ps) ≡ fan + fan * length ps = grind arith in
+    omega (arith, here, both, rest, more)
+
+length_all : (g : Spacetree) → length (all_cells g) ≡ cells_of g
+length_all g = omega (arith, length_under g.dim (refined_cells g), ap (λ n. 3 ^ axes g.dim * n) (length_refined g))
+
+pub counts_at_most : CountsAtMost
+counts_at_most g cells once within =
+    let kept : IsKept (with_all set.empty cells) (with_all set.empty (all_cells g)) = λ c h.
+    let of = within c (sym (in_list cells c) ∙ h) in
+    in_list (all_cells g) c ∙ listed_under g (refined_cells g) (λ q r. refined_listed g q ∙ r) c of.cell of.there in
+    omega (arith, as_many cells once, len_by_kept _ _ kept, no_more (all_cells g), length_all g)
+
+-- so are those of a kind,
+counted_at_most : (g : Spacetree) (P : CellKey → Type 0) (n : ℕ) → ((c : CellKey) → P c → IsCellOf g c) → CountsCells P n → n ≤ cells_of g
+counted_at_most g P n within counted = omega (arith, counts_at_most g counted.cells counted.once (λ c h. within c ((counted.members c).0 h)), counted.count)
+
+-- those that split
+pub splits_at_most : (g : Spacetree) (marks : CellKey → Mark) (n : ℕ) → CountsCells (Splits g marks) n → n ≤ cells_of g
+splits_at_most g marks n counted = counted_at_most g (Splits g marks) n (λ c s. record { cell = s.cell; there = leaf_there g c (record { cell = s.cell; leaf = s.leaf }) }) counted
+
+-- and those that merge
+pub merges_at_most : (g : Spacetree) (marks : CellKey → Mark) (n : ℕ) → IsGrid 12 g → CountsCells (Merges g marks) n → n ≤ cells_of g
+merges_at_most g marks n grid counted = counted_at_most g (Merges g marks) n (λ c m. record { cell = grid.cells c m.refined; there = refined_there 12 g c grid m.refined }) counted
