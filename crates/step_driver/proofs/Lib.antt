@@ -12,3 +12,5 @@ pub mod Finished
 pub mod Pend
 pub mod Marked
 pub mod AdaptedTrees
+pub mod Sizes
+pub mod Refused

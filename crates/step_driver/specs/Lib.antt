@@ -8,3 +8,5 @@ pub mod Computing
 pub mod Finishing
 pub mod Pending
 pub mod Adapting
+pub mod Sizes
+pub mod Refusing

@@ -10,6 +10,9 @@ mod finishing;
 mod keys;
 pub mod laws;
 mod raising;
+mod refusing;
+mod size;
 mod world;
 
+pub use spacetree::EvalFault as StepFault;
 pub use world::World;

@@ -1,0 +1,31 @@
+//! The size of the next grid.
+ghost use Rattle.std.specs.Prelude.{◌≡◌, ◌*◌, ◌^◌, ◌≤◌};
+ghost use Rattle.peano_keys.specs.Dim.{axes};
+ghost use Rattle.step_driver.specs.Sizes.{HasTurnover, IsSizeAfter};
+
+use crate::finishing::Turnover;
+use peano_keys::Dim;
+
+// How many children so many cells have.
+fn children_of(dim: Dim, cells: u64) -> u64
+    requires { cells ≤ 200000 }
+    ensures value { result ≡ 3 ^ axes dim * cells }
+    ensures most { result ≤ 5400000 }
+{
+    match dim {
+        Dim::Two => 9 * cells,
+        Dim::Three => 27 * cells,
+    }
+}
+
+/// How many cells the next grid has: those of the old one, with the children of each cell that splits and without those of
+/// each that merges.
+pub(crate) fn size_after(cells: u64, dim: Dim, turnover: Turnover) -> u64
+    requires limit { cells ≤ 200000 }
+    requires turnover { HasTurnover dim cells turnover }
+    ensures { IsSizeAfter dim cells turnover result }
+{
+    let added = children_of(dim, turnover.splits);
+    let removed = children_of(dim, turnover.merges);
+    cells + added - removed
+}
