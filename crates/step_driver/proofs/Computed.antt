@@ -1,27 +1,23 @@
 -- The primary sweeps of all trees, tree after tree.
-use Rattle.std.proofs.Common.{◌≡◌, ◌≢◌, ℕ, suc, ◌+◌, ◌<◌, ◌≤◌, List, [], ◌∷◌, ◌++◌, length, refl, ap, sym, subst, ◌∙◌, ⊎_elim, append-nil, append_assoc, arith}
-use Rattle.std.specs.Prelude.{Option, Some, None, slice_set, Result, Ok, Err, IfOk}
+use Rattle.std.proofs.Common.{◌≡◌, ℕ, ◌+◌, ◌<◌, List, [], ◌∷◌, ◌++◌, length, refl, ap, sym, subst, ◌∙◌, ⊎_elim, append-nil, arith}
+use Rattle.std.specs.Prelude.{Option, None, slice_set, Result, Ok, Err, IfOk}
 use Rattle.std.proofs.lemmas.Bool.{cases_eq}
 use Rattle.std.proofs.lemmas.List.{length-set, get_or-set_same, get_or-set_other}
 use Rattle.peano_keys.specs.declared.cell.CellKey.{CellKey}
 use Rattle.peano_keys.specs.Grid.{Spacetree}
 use Rattle.peano_keys.specs.Field.{States}
 use Rattle.peano_curve.specs.declared.order.Direction.{Direction}
-use Rattle.curve_cuts.specs.Cuts.{Cuts, IsCutGrid, range_of}
+use Rattle.curve_cuts.specs.Cuts.{Cuts, IsCutGrid}
 use Rattle.vertex_stacks.specs.declared.kind.Kind.TheVariants.{Primary}
 use Rattle.vertex_stacks.specs.Notes.{Note}
 use Rattle.vertex_stacks.specs.Tales.{with_note}
 use Rattle.tree_automaton.specs.TreeLists.{TreeLists}
-use Rattle.tree_automaton.specs.AtRest.{plain_plan}
-use Rattle.step_phases.specs.Sweeps.{IsSwept, PrimaryChanges}
-use Rattle.swept_slots.specs.Copies.{copies}
 use Rattle.step_world.specs.Failing.{FailsInTree}
-use Rattle.step_world.specs.Notes.{note_over, by_trees}
+use Rattle.step_world.specs.Notes.{note_over}
 use Rattle.step_sweeps.specs.declared.tally.Tally.{Tally}
 use Rattle.step_sweeps.specs.Kernels.{Kernel}
-use Rattle.step_sweeps.specs.Primaries.{every_leaf}
 use Rattle.step_sweeps.specs.Sweeps.{StandsOn, IsPrimarySwept}
-use Rattle.step_driver.specs.Stores.{no_store, store_of, ChangesTree, ChangesFirst}
+use Rattle.step_driver.specs.Stores.{no_store, store_of, ChangesTree}
 use Rattle.step_driver.specs.Notes.{sizes_of}
 use Rattle.step_driver.specs.Computing.{AllStandOn, IsComputedAt, IsComputedTree, AreComputed, least_with}
 use Rattle.step_driver.proofs.Changes.{none_changed, one_more}

@@ -1,20 +1,18 @@
 -- What sweeps of a tree move, whichever way they go.
-use Rattle.std.proofs.Common.{◌≡◌, ℕ, ◌-◌, ◌≤◌, ◌||◌, Bool, true, false, List, [], length, refl, ap, sym, subst, ◌∙◌, arith}
-use Rattle.std.specs.Prelude.{Some, None}
-use Rattle.std.specs.List.{sum_by}
+use Rattle.std.proofs.Common.{◌≡◌, ℕ, ◌≤◌, ◌||◌, Bool, true, false, List, length, refl, ap, sym, subst, ◌∙◌}
+use Rattle.std.specs.Prelude.{Some}
 use Rattle.std.proofs.lemmas.Bool.{false≢true}
 use Rattle.peano_keys.specs.declared.vertex.VertexKey.{VertexKey}
 use Rattle.peano_keys.specs.Grid.{Spacetree, IsGrid}
 use Rattle.peano_curve.specs.declared.order.Direction.{Direction}
 use Rattle.peano_curve.specs.declared.order.Direction.TheVariants.{Forward}
 use Rattle.peano_curve.specs.declared.range.Range.{Range}
-use Rattle.stack_law.specs.Once.{IsIn}
 use Rattle.curve_cuts.specs.Cuts.{Cuts, IsCutGrid, range_of}
 use Rattle.vertex_stacks.specs.declared.kind.Kind.{Kind}
 use Rattle.vertex_stacks.specs.declared.kind.Kind.TheVariants.{Raise, Adapt}
 use Rattle.vertex_stacks.specs.Notes.{Note}
 use Rattle.vertex_stacks.specs.Tales.{capped}
-use Rattle.sweep_visits.specs.Plan.{SweepPlan, IsSweepPlan, dim_of, is_kept, is_stored, is_stored_in}
+use Rattle.sweep_visits.specs.Plan.{SweepPlan, IsSweepPlan, is_kept, is_stored, is_stored_in}
 use Rattle.sweep_visits.specs.Moves.{moves_of, taken_by, put_by, same_vertex}
 use Rattle.sweep_visits.proofs.Same.{vertices_decided}
 use Rattle.sweep_streams.specs.Counts.{IsHeldVertex, ListsVertices, pushed_by}

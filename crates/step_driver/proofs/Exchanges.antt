@@ -1,5 +1,5 @@
 -- An exchange between all trees, box after box and tree after tree.
-use Rattle.std.proofs.Common.{◌≡◌, ◌≢◌, ℕ, ◌+◌, ◌<◌, ◌≤◌, List, [], ◌∷◌, ◌++◌, length, get_or, refl, ap, sym, subst, ◌∙◌, ⊎_elim, arith, inl}
+use Rattle.std.proofs.Common.{◌≡◌, ℕ, ◌+◌, ◌<◌, ◌≤◌, List, [], ◌∷◌, ◌++◌, length, ap, sym, subst, ◌∙◌, ⊎_elim, arith, inl}
 use Rattle.std.specs.Prelude.{slice_set}
 use Rattle.std.proofs.lemmas.Bool.{cases_eq}
 use Rattle.std.proofs.lemmas.List.{length-append, length-set, get_or_append_left, get_or_push, get_or-set_same, get_or-set_other}
@@ -15,7 +15,7 @@ use Rattle.boundary_streams.specs.Sent.{Outgoing, sent_to}
 use Rattle.boundary_streams.specs.Trees.{IsTreeOf, copies_of}
 use Rattle.boundary_streams.specs.Collects.{IsCollected}
 use Rattle.boundary_streams.specs.Merges.{IsMerged}
-use Rattle.boundary_streams.specs.Exchanges.{IsBox, AreBoxes, HasMerged}
+use Rattle.boundary_streams.specs.Exchanges.{IsBox, AreBoxes}
 use Rattle.boundary_streams.proofs.Agrees.{exchange_takes_owners}
 use Rattle.boundary_streams.proofs.Stored.{lists_hold_vertices, merge_keeps_lists}
 use Rattle.step_driver.specs.Stores.{no_store, store_of, AreTrees, ChangesTree, ChangesFirst, AllMerged, AllHaveLists}

@@ -1,5 +1,5 @@
 -- The secondary sweeps of all trees, tree after tree.
-use Rattle.std.proofs.Common.{◌≡◌, ◌≢◌, ℕ, zero, suc, ◌+◌, ◌<◌, ◌≤◌, ◌==◌, Bool, List, [], ◌∷◌, ◌++◌, length, if◌then◌else◌, refl, ap, ap₂, sym, subst, ◌∙◌, ⊎_elim, append-nil, append_assoc, arith}
+use Rattle.std.proofs.Common.{◌≡◌, ◌≢◌, ℕ, zero, suc, ◌+◌, ◌<◌, ◌==◌, Bool, List, [], ◌∷◌, ◌++◌, length, if◌then◌else◌, refl, ap, ap₂, sym, subst, ◌∙◌, ⊎_elim, append-nil, arith}
 use Rattle.std.specs.Prelude.{slice_set}
 use Rattle.std.proofs.lemmas.Bool.{cases_eq, eq-eqb, ne_eqb}
 use Rattle.std.proofs.lemmas.List.{length-set, get_or-set_same, get_or-set_other}
@@ -14,11 +14,11 @@ use Rattle.vertex_stacks.specs.Tales.{capped, with_note}
 use Rattle.tree_automaton.specs.TreeLists.{TreeLists}
 use Rattle.step_phases.specs.Change.{Change}
 use Rattle.step_world.specs.Counts.{CountsCells, total}
-use Rattle.step_world.specs.Notes.{note_over, by_trees}
+use Rattle.step_world.specs.Notes.{note_over}
 use Rattle.step_sweeps.specs.declared.tally.Tally.{Tally}
 use Rattle.step_sweeps.specs.Sweeps.{IsMarked, CountsOwn, IsSecondarySwept}
 use Rattle.step_driver.specs.declared.finishing.Turnover.{Turnover}
-use Rattle.step_driver.specs.Stores.{no_store, store_of, ChangesTree, ChangesFirst}
+use Rattle.step_driver.specs.Stores.{no_store, store_of, ChangesTree}
 use Rattle.step_driver.specs.Notes.{sizes_of}
 use Rattle.step_driver.specs.Finishing.{AllMarked, IsFinishedAt, IsFinishedTree, CountsFirst, AreFinished}
 use Rattle.step_driver.proofs.Changes.{none_changed, one_more}

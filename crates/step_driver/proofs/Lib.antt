@@ -14,3 +14,8 @@ pub mod Marked
 pub mod AdaptedTrees
 pub mod Sizes
 pub mod Refused
+pub mod NextTold
+pub mod Began
+pub mod Stepped
+pub mod Taken
+pub mod Advances

@@ -1,5 +1,5 @@
 -- From primary sweeps and the first exchange to stores that secondary sweeps can finish.
-use Rattle.std.proofs.Common.{◌≡◌, ℕ, ◌<◌, List, ap, sym, subst, ◌∙◌, arith}
+use Rattle.std.proofs.Common.{ℕ, ◌<◌, List, sym, subst, ◌∙◌, arith}
 use Rattle.std.specs.Prelude.{Option}
 use Rattle.peano_keys.specs.declared.cell.CellKey.{CellKey}
 use Rattle.peano_keys.specs.Field.{States, value_of}
@@ -20,7 +20,7 @@ use Rattle.swept_slots.proofs.Stores.{rest_is_said}
 use Rattle.boundary_streams.specs.Trees.{copies_of}
 use Rattle.step_sweeps.specs.Kernels.{Kernel, IsChangeBy}
 use Rattle.step_sweeps.specs.Primaries.{every_leaf}
-use Rattle.step_sweeps.specs.Sweeps.{IsToFinish, IsMarked}
+use Rattle.step_sweeps.specs.Sweeps.{IsToFinish}
 use Rattle.step_driver.specs.Stores.{store_of, AllMerged, AllHaveLists}
 use Rattle.step_driver.specs.Computing.{AllStandOn, AreComputed}
 use Rattle.step_driver.specs.Finishing.{AllMarked}

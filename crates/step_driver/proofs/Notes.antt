@@ -1,10 +1,10 @@
 -- The notes of trees, and the tales that they make.
-use Rattle.std.proofs.Common.{append_assoc, ◌≡◌, ◌≢◌, ℕ, zero, suc, ◌+◌, ◌<◌, ◌≤◌, ◌==◌, Bool, true, false, cond, List, [], ◌∷◌, ◌++◌, filter, refl, ap, ap₂, sym, ◌∙◌, ⊎_elim, arith}
+use Rattle.std.proofs.Common.{append_assoc, ◌≡◌, ◌≢◌, ℕ, zero, suc, ◌+◌, ◌<◌, ◌≤◌, ◌==◌, Bool, true, false, cond, List, [], ◌∷◌, ◌++◌, refl, ap, ap₂, sym, ◌∙◌, ⊎_elim, arith}
 use Rattle.std.proofs.lemmas.Bool.{cases_eq, eq-eqb, ne_eqb}
 use Rattle.std.proofs.lemmas.List.{append-nil}
 use Rattle.std.proofs.lemmas.List.Elements.{filter-append}
 use Rattle.vertex_stacks.specs.Notes.{Note}
-use Rattle.vertex_stacks.specs.Tales.{TaleGrows, tale_of, no_tale, with_note}
+use Rattle.vertex_stacks.specs.Tales.{TaleGrows, tale_of, with_note}
 use Rattle.tree_automaton.specs.TreeLists.{TreeLists}
 use Rattle.step_world.specs.Notes.{by_trees}
 use Rattle.step_driver.specs.Stores.{store_of}

@@ -1,13 +1,11 @@
 -- What a step is about to change can be finished.
-use Rattle.std.proofs.Common.{◌≡◌, ℕ, zero, suc, ◌+◌, ◌-◌, ◌<◌, Bool, true, false, if◌then◌else◌, refl, ap, sym, ◌∙◌, arith}
-use Rattle.std.specs.Prelude.{Option}
+use Rattle.std.proofs.Common.{◌≡◌, ℕ, zero, suc, ◌+◌, ◌-◌, ◌<◌, Bool, true, false, if◌then◌else◌, refl, ap, ◌∙◌, arith}
 use Rattle.peano_keys.specs.declared.cell.CellKey.{CellKey}
-use Rattle.peano_keys.specs.declared.state.State.{State}
 use Rattle.peano_keys.specs.Cell.{centre_child}
 use Rattle.peano_keys.specs.Grid.{Spacetree, IsGrid, is_refined}
 use Rattle.peano_keys.specs.Field.{States}
 use Rattle.peano_keys.specs.Next.{IsNextGrid}
-use Rattle.solver_api.specs.Step.{UpdateRule, IsLeafOf, new_state, marks_of}
+use Rattle.solver_api.specs.Step.{new_state, marks_of}
 use Rattle.curve_cuts.proofs.Leaves.{leaf_plain}
 use Rattle.step_values.specs.Centres.{TakesCentre}
 use Rattle.step_sweeps.specs.Kernels.{Kernel, IsChangeBy}

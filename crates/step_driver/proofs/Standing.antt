@@ -1,5 +1,5 @@
 -- Stores by their lists and by their copies, and the one grid and field of a world.
-use Rattle.std.proofs.Common.{◌≡◌, ℕ, ◌<◌, List, ap, sym, ◌∙◌}
+use Rattle.std.proofs.Common.{List, sym, ◌∙◌}
 use Rattle.peano_keys.specs.Grid.{Spacetree}
 use Rattle.peano_keys.specs.Field.{States}
 use Rattle.peano_curve.specs.declared.order.Direction.{Direction}
@@ -12,7 +12,7 @@ use Rattle.boundary_streams.specs.Trees.{copies_of}
 use Rattle.step_world.specs.Worlds.{StandFor}
 use Rattle.step_world.proofs.Worlds.{stand_for_one}
 use Rattle.step_driver.specs.Stores.{store_of, AllHaveLists, AllStandFor}
-use Rattle.step_driver.specs.Worlds.{Seen, IsAt, WorldIsAtOne, WorldStands}
+use Rattle.step_driver.specs.Worlds.{WorldIsAtOne, WorldStands}
 
 -- what lies in the stores and what their copies say is what they stand for
 pub all_stand : (k : Cuts) (dir : Direction) (g : Spacetree) (f : States) (stores : List TreeLists) → AllHaveLists k dir g stores → StandFor k (copies_of (store_of stores)) g f → AllStandFor k dir g f stores
@@ -30,7 +30,7 @@ copies_stand k dir g f stores fits field stand = record {
 }
 
 pub world_stands : {S : Type 0} → WorldStands S
-world_stands parts w g f step at = copies_stand (cuts_of w.keys) at.dir g f w.stores at.fits at.field.leaves at.stores
+world_stands parts w g f step at = copies_stand (cuts_of w.keys) at.trees.dir g f w.stores at.trees.fits at.trees.field.leaves at.trees.stand
 
 pub world_is_at_one : {S : Type 0} → WorldIsAtOne S
 world_is_at_one parts w g h f e m n one two =

@@ -1,5 +1,5 @@
 -- The trees of a world as it starts.
-use Rattle.std.proofs.Common.{◌≡◌, ℕ, suc, ◌+◌, ◌<◌, ◌≤◌, true, List, [], ◌∷◌, ◌++◌, length, refl, ap, ap₂, sym, subst, ◌∙◌, ⊎_elim, arith}
+use Rattle.std.proofs.Common.{◌≡◌, ℕ, ◌+◌, ◌<◌, true, List, [], ◌∷◌, ◌++◌, length, refl, ap, ap₂, sym, subst, ◌∙◌, ⊎_elim, arith}
 use Rattle.std.specs.Prelude.{pos}
 use Rattle.std.proofs.lemmas.Bool.{cases_eq}
 use Rattle.std.proofs.lemmas.List.{length-append, get_or_append_left, get_or_push}
@@ -19,9 +19,8 @@ use Rattle.step_phases.specs.Sweeps.{IsRaised}
 use Rattle.boundary_streams.specs.Trees.{copies_of}
 use Rattle.adapt_sweep.specs.Raising.{CanBeRaised, IsRaisedTree}
 use Rattle.step_world.specs.Notes.{note_raised, by_trees}
-use Rattle.step_world.specs.Worlds.{StandFor}
 use Rattle.step_world.proofs.Worlds.{start_stands}
-use Rattle.step_driver.specs.Stores.{no_store, store_of, AllMerged, AllHaveLists, AllStandFor}
+use Rattle.step_driver.specs.Stores.{no_store, store_of, AllMerged, AllHaveLists}
 use Rattle.step_driver.specs.Notes.{sizes_of, HaveTales}
 use Rattle.step_driver.specs.Starts.{IsRaisedStore, IsRaisedWith, AreRaised, AreStarted}
 use Rattle.step_driver.proofs.Counts.{note_raising}

@@ -2,7 +2,7 @@
 use Rattle.std.specs.Prelude.{◌≡◌, ◌≢◌, ℕ, ◌<◌, List, ◌++◌, length}
 use Rattle.peano_keys.specs.Grid.{Spacetree}
 use Rattle.peano_curve.specs.declared.order.Direction.{Direction}
-use Rattle.curve_cuts.specs.Cuts.{Cuts, range_of}
+use Rattle.curve_cuts.specs.Cuts.{Cuts, IsCutGrid, range_of}
 use Rattle.vertex_stacks.specs.Notes.{Note}
 use Rattle.vertex_stacks.specs.Tales.{with_note}
 use Rattle.sweep_visits.specs.Runs.{turned_round}
@@ -18,6 +18,7 @@ use Rattle.step_driver.specs.Notes.{sizes_of}
 
 -- the store of each tree stands before the adaptation that a change makes, and all are read in one direction
 pub record AllCanAdapt (k : Cuts) (dir : Direction) (w : Change) (stores : List TreeLists) : Type 0 where
+  pub grid : IsCutGrid k w.new
   pub count : length stores ≡ k.trees
   pub number : (t : ℕ) → t < k.trees → (store_of stores t).tree ≡ t
   pub way : (t : ℕ) → t < k.trees → (store_of stores t).dir ≡ dir

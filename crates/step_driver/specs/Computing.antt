@@ -4,7 +4,7 @@ use Rattle.peano_keys.specs.declared.cell.CellKey.{CellKey}
 use Rattle.peano_keys.specs.Grid.{Spacetree}
 use Rattle.peano_keys.specs.Field.{States}
 use Rattle.peano_curve.specs.declared.order.Direction.{Direction}
-use Rattle.curve_cuts.specs.Cuts.{Cuts}
+use Rattle.curve_cuts.specs.Cuts.{Cuts, IsCutGrid}
 use Rattle.vertex_stacks.specs.declared.kind.Kind.TheVariants.{Primary}
 use Rattle.vertex_stacks.specs.Notes.{Note}
 use Rattle.vertex_stacks.specs.Tales.{with_note}
@@ -24,6 +24,7 @@ use Rattle.step_driver.specs.Notes.{sizes_of}
 
 -- the store of each tree stands for a grid and a field whose states have so many values, all to be read in one direction
 pub record AllStandOn (k : Cuts) (parts : ℕ) (dir : Direction) (g : Spacetree) (f : States) (stores : List TreeLists) : Type 0 where
+  pub grid : IsCutGrid k g
   pub count : length stores ≡ k.trees
   pub number : (t : ℕ) → t < k.trees → (store_of stores t).tree ≡ t
   pub each : (t : ℕ) → t < k.trees → StandsOn k parts dir g f (store_of stores t)

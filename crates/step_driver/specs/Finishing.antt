@@ -19,7 +19,7 @@ use Rattle.swept_slots.specs.Copies.{copies}
 use Rattle.step_world.specs.Counts.{CountsCells, total}
 use Rattle.step_world.specs.Notes.{note_over, by_trees}
 use Rattle.step_sweeps.specs.declared.tally.Tally.{Tally}
-use Rattle.step_sweeps.specs.Sweeps.{IsMarked, CanFinish, IsSecondarySwept}
+use Rattle.step_sweeps.specs.Sweeps.{IsMarked, IsSecondarySwept}
 use Rattle.step_driver.specs.declared.finishing.Turnover.{Turnover}
 use Rattle.step_driver.specs.Stores.{store_of, ChangesFirst}
 use Rattle.step_driver.specs.Notes.{sizes_of}

@@ -10,3 +10,5 @@ pub mod Pending
 pub mod Adapting
 pub mod Sizes
 pub mod Refusing
+pub mod Stepping
+pub mod Advances

@@ -5,7 +5,7 @@ use Rattle.peano_keys.specs.Field.{States}
 use Rattle.peano_curve.specs.declared.order.Direction.{Direction}
 use Rattle.spacetree.specs.Counts.{cells_of}
 use Rattle.spacetree.specs.Fields.{IsFieldOn}
-use Rattle.curve_cuts.specs.Cuts.{IsCutGrid}
+use Rattle.curve_cuts.specs.Cuts.{Cuts, IsCutGrid}
 use Rattle.curve_cuts.specs.Keys.{CutPoints, cuts_of}
 use Rattle.vertex_stacks.specs.Notes.{Note}
 use Rattle.tree_automaton.specs.TreeLists.{TreeLists}
@@ -24,18 +24,22 @@ pub record Seen (S : Type 0) : Type 0 where
   pub notes : List Note
   pub live : Bool
 
--- A live world is at a grid and a field after so many steps: the store of each tree stands for them, in what lies in it and in what each slot says,
--- all are read in one direction, and the tale of each is that of its tree's notes. Each state has so many values.
+-- The trees of some cuts are at a grid and a field whose states have so many values: the store of each tree stands for them, in what lies in it and in what
+-- each slot says, and all are read in one direction; the tale of each is that of its tree's notes; and the grid has so many cells, at most 200,000.
+pub record AreAt (parts : ℕ) (k : Cuts) (stores : List TreeLists) (notes : List Note) (cells : ℕ) (g : Spacetree) (f : States) : Type 0 where
+  pub fits : IsCutGrid k g
+  pub field : IsFieldOn parts g f
+  pub dir : Direction
+  pub stand : AllStandFor k dir g f stores
+  pub tales : HaveTales k.trees stores notes
+  pub counted : cells ≡ cells_of g
+  pub room : cells_of g ≤ 200000
+
+-- a live world is at a grid and a field after so many steps
 pub record IsAt {S : Type 0} (parts : ℕ) (w : Seen S) (g : Spacetree) (f : States) (step : ℕ) : Type 0 where
   pub live : w.live ≡ true
   pub step_is : w.step ≡ step
-  pub fits : IsCutGrid (cuts_of w.keys) g
-  pub field : IsFieldOn parts g f
-  pub dir : Direction
-  pub stores : AllStandFor (cuts_of w.keys) dir g f w.stores
-  pub tales : HaveTales (cuts_of w.keys).trees w.stores w.notes
-  pub cells : w.cells ≡ cells_of g
-  pub room : cells_of g ≤ 200000
+  pub trees : AreAt parts (cuts_of w.keys) w.stores w.notes w.cells g f
 
 -- a world is at one grid and one field, after one number of steps
 abbrev pub WorldIsAtOne : Type 0 → Type 0

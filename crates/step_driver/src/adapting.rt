@@ -1,10 +1,12 @@
 //! The adaptation sweeps of all trees.
-ghost use Rattle.std.specs.Prelude.{◌≡◌, ◌<◌, IfOk, OnOk, length};
+ghost use Rattle.std.specs.Prelude.{◌≡◌, ◌<◌, IfOk, OnOk, OnErr, length};
 ghost use Rattle.peano_curve.specs.declared.order.Direction.{Direction};
 ghost use Rattle.curve_cuts.specs.Keys.{cuts_of};
 ghost use Rattle.step_phases.specs.Change.{Change};
 ghost use Rattle.adapt_sweep.specs.Adapting.{CanBeAdapted};
+ghost use Rattle.step_world.specs.Notes.{note_adapted, by_trees};
 ghost use Rattle.step_driver.specs.Stores.{store_of};
+ghost use Rattle.step_driver.specs.Notes.{sizes_of, AddsFirst};
 ghost use Rattle.step_driver.specs.Adapting.{AllCanAdapt, AllCanTake, AreAdapted, IsAdaptedAt};
 
 use adapt_sweep::{NewGrid, adapt_tree};
@@ -36,7 +38,8 @@ pub(crate) fn adapt_all<N: NewGrid>(
     step: u32,
 ) -> Result<(), AllocError>
     requires { AllCanTake (cuts_of keys.now) N.grid stores.old }
-    ensures { OnOk result ((dir : Direction) (w : Change) → w.new ≡ N.grid → AllCanAdapt (cuts_of keys.now) dir w stores.old → AreAdapted (cuts_of keys.now) dir w step (cuts_of keys.now).trees stores.old stores.new notes.old.items notes.new.items) }
+    ensures adapted { OnOk result ((dir : Direction) (w : Change) → w.new ≡ N.grid → AllCanAdapt (cuts_of keys.now) dir w stores.old → AreAdapted (cuts_of keys.now) dir w step (cuts_of keys.now).trees stores.old stores.new notes.old.items notes.new.items) }
+    ensures stopped { OnErr result ((dir : Direction) (w : Change) → w.new ≡ N.grid → AllCanAdapt (cuts_of keys.now) dir w stores.old → AddsFirst notes.old.items notes.new.items (by_trees (cuts_of keys.now).trees (note_adapted (sizes_of (cuts_of keys.now)) step w.old w.new))) }
 {
     for t in 0..stores.len() {
         let note = adapt_at::<N>(stores, keys, step, t)?;

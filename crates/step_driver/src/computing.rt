@@ -1,12 +1,15 @@
 //! The primary sweeps of all trees.
-ghost use Rattle.std.specs.Prelude.{◌≡◌, ◌<◌, IfOk, length};
+ghost use Rattle.std.specs.Prelude.{◌≡◌, ◌<◌, IfOk, OnErr, length};
 ghost use Rattle.peano_keys.specs.Grid.{Spacetree};
 ghost use Rattle.peano_keys.specs.Field.{States};
 ghost use Rattle.peano_curve.specs.declared.order.Direction.{Direction};
 ghost use Rattle.curve_cuts.specs.Keys.{cuts_of};
+ghost use Rattle.vertex_stacks.specs.declared.kind.Kind.TheVariants.{Primary};
+ghost use Rattle.step_world.specs.Notes.{note_over, by_trees};
 ghost use Rattle.step_sweeps.specs.Kernels.{least_of};
 ghost use Rattle.step_sweeps.specs.Sweeps.{CanStep};
 ghost use Rattle.step_driver.specs.Stores.{store_of};
+ghost use Rattle.step_driver.specs.Notes.{sizes_of, AddsFirst};
 ghost use Rattle.step_driver.specs.Computing.{AllStandOn, AllCanStep, AreComputed, IsComputedAt, least_with};
 
 use curve_cuts::Keys;
@@ -66,7 +69,8 @@ pub(crate) fn compute_all<S: Solver>(
     step: u32,
 ) -> Result<Option<CellKey>, AllocError>
     requires { AllCanStep (cuts_of keys.now) (S.parts_of solver.now) stores.old }
-    ensures { IfOk result (λ failing. (dir : Direction) (g : Spacetree) (f : States) → AllStandOn (cuts_of keys.now) (S.parts_of solver.now) dir g f stores.old → AreComputed (record { parts = S.parts_of solver.now; updated = S.updated solver.now; marked = S.marked solver.now }) (cuts_of keys.now) dir g f step (cuts_of keys.now).trees stores.old stores.new notes.old.items notes.new.items failing) }
+    ensures computed { IfOk result (λ failing. (dir : Direction) (g : Spacetree) (f : States) → AllStandOn (cuts_of keys.now) (S.parts_of solver.now) dir g f stores.old → AreComputed (record { parts = S.parts_of solver.now; updated = S.updated solver.now; marked = S.marked solver.now }) (cuts_of keys.now) dir g f step (cuts_of keys.now).trees stores.old stores.new notes.old.items notes.new.items failing) }
+    ensures stopped { OnErr result ((dir : Direction) (g : Spacetree) (f : States) → AllStandOn (cuts_of keys.now) (S.parts_of solver.now) dir g f stores.old → AddsFirst notes.old.items notes.new.items (by_trees (cuts_of keys.now).trees (note_over (sizes_of (cuts_of keys.now)) step Primary g))) }
 {
     let mut failing = None;
     for t in 0..stores.len() {

@@ -1,12 +1,15 @@
 //! The secondary sweeps of all trees.
-ghost use Rattle.std.specs.Prelude.{◌≡◌, ◌+◌, ◌<◌, IfOk, length};
+ghost use Rattle.std.specs.Prelude.{◌≡◌, ◌+◌, ◌<◌, IfOk, OnErr, length};
 ghost use Rattle.peano_keys.specs.Field.{States};
 ghost use Rattle.peano_curve.specs.declared.order.Direction.{Direction};
 ghost use Rattle.curve_cuts.specs.Keys.{cuts_of};
+ghost use Rattle.vertex_stacks.specs.declared.kind.Kind.TheVariants.{Secondary};
 ghost use Rattle.vertex_stacks.specs.Tales.{capped};
 ghost use Rattle.step_phases.specs.Change.{Change};
+ghost use Rattle.step_world.specs.Notes.{note_over, by_trees};
 ghost use Rattle.step_sweeps.specs.Sweeps.{CanFinish};
 ghost use Rattle.step_driver.specs.Stores.{store_of};
+ghost use Rattle.step_driver.specs.Notes.{sizes_of, AddsFirst};
 ghost use Rattle.step_driver.specs.Finishing.{AllMarked, AllCanFinish, AreFinished, IsFinishedAt};
 
 use curve_cuts::Keys;
@@ -58,7 +61,8 @@ pub(crate) fn finish_all(
     step: u32,
 ) -> Result<Turnover, AllocError>
     requires { AllCanFinish (cuts_of keys.now) stores.old }
-    ensures { IfOk result (λ turnover. (dir : Direction) (w : Change) (f : States) → AllMarked (cuts_of keys.now) dir w f stores.old → AreFinished (cuts_of keys.now) dir w step (cuts_of keys.now).trees stores.old stores.new notes.old.items notes.new.items turnover) }
+    ensures finished { IfOk result (λ turnover. (dir : Direction) (w : Change) (f : States) → AllMarked (cuts_of keys.now) dir w f stores.old → AreFinished (cuts_of keys.now) dir w step (cuts_of keys.now).trees stores.old stores.new notes.old.items notes.new.items turnover) }
+    ensures stopped { OnErr result ((dir : Direction) (w : Change) (f : States) → AllMarked (cuts_of keys.now) dir w f stores.old → AddsFirst notes.old.items notes.new.items (by_trees (cuts_of keys.now).trees (note_over (sizes_of (cuts_of keys.now)) step Secondary w.old))) }
 {
     let mut turnover = Turnover {
         splits: 0,

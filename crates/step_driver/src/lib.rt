@@ -12,6 +12,7 @@ pub mod laws;
 mod raising;
 mod refusing;
 mod size;
+mod stepping;
 mod world;
 
 pub use spacetree::EvalFault as StepFault;

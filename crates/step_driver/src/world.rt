@@ -1,18 +1,21 @@
 //! The world.
-ghost use Rattle.std.specs.Prelude.{◌≡◌, ◌≤◌, IfOk, length};
-ghost use Rattle.peano_keys.specs.Grid.{IsGrid};
+ghost use Rattle.std.specs.Prelude.{◌≡◌, ◌<◌, ◌≤◌, true, IfOk, length};
+ghost use Rattle.peano_keys.specs.Grid.{IsGrid, Spacetree};
+ghost use Rattle.peano_keys.specs.Field.{States};
 ghost use Rattle.spacetree.specs.Fields.{IsFieldOn};
 ghost use Rattle.curve_cuts.specs.Keys.{cuts_of};
 ghost use Rattle.step_world.specs.Notes.{note_raised, by_trees};
 ghost use Rattle.step_driver.specs.Notes.{sizes_of};
 ghost use Rattle.step_driver.specs.Worlds.{IsAt};
 ghost use Rattle.step_driver.specs.Starts.{AreFirstKeys};
+ghost use Rattle.step_driver.specs.Advances.{IsAdvanced};
 
 use crate::keys::first_keys;
 use crate::raising::{Forest, plant};
+use crate::stepping::take_step;
 use curve_cuts::Keys;
 use solver_api::Solver;
-use spacetree::{Field, Grid};
+use spacetree::{EvalFault as StepFault, Field, Grid};
 use std::alloc::{AllocError, Global};
 use std::marker::Model;
 use vertex_stacks::SweepNote;
@@ -31,8 +34,11 @@ pub struct World<S: Solver> {
 }
 
 impl<S: Solver> Model for World<S> {
-    ghost use Rattle.std.specs.Prelude.{◌≤◌};
-    ghost use Rattle.step_driver.specs.Worlds.{Seen};
+    ghost use Rattle.std.specs.Prelude.{◌≡◌, ◌≤◌, true};
+    ghost use Rattle.peano_keys.specs.Grid.{Spacetree};
+    ghost use Rattle.peano_keys.specs.Field.{States};
+    ghost use Rattle.curve_cuts.specs.Keys.{cuts_of};
+    ghost use Rattle.step_driver.specs.Worlds.{AreAt, Seen};
 
     ghost Value = { Seen S };
 
@@ -46,7 +52,7 @@ impl<S: Solver> Model for World<S> {
       live = w.live;
     } };
 
-    ghost invariant = { λ w. S.deepest_of w.solver ≤ w.keys.depth };
+    ghost invariant = { λ w. (S.deepest_of w.solver ≤ w.keys.depth) × (w.live ≡ true → (g : Spacetree) × (f : States) × AreAt (S.parts_of w.solver) (cuts_of w.keys) w.forest.stores.items w.forest.notes.items w.cells g f) };
 }
 
 impl<S: Solver> World<S> {
@@ -81,6 +87,40 @@ impl<S: Solver> World<S> {
             step: 0,
             live: true,
         })
+    }
+
+    /// Takes one step. It is refused at the least leaf whose new value leaves the range of `i64`; where there is none,
+    /// because the next grid would have more than 200,000 cells; or for want of memory. After a refusal the world is not
+    /// live.
+    pub fn advance(&mut self, alloc: Global) -> Result<(), StepFault>
+        requires live { self.old.live ≡ true }
+        requires step { self.old.step < 4294967295 }
+        ensures solver { self.new.solver ≡ self.old.solver }
+        ensures keys { self.new.keys ≡ self.old.keys }
+        ensures advanced { (g : Spacetree) (f : States) → IsAt (S.parts_of self.old.solver) self.old g f self.old.step → IsAdvanced (record { parts = S.parts_of self.old.solver; updated = S.updated self.old.solver; marked = S.marked self.old.solver }) (S.adapting self.old.solver) g f self.old self.new result }
+    {
+        let step = self.step + 1;
+        let stores = self.forest.stores.as_mut_slice();
+        let notes = &mut self.forest.notes;
+        match take_step(
+            alloc,
+            stores,
+            notes,
+            &self.solver,
+            &self.keys,
+            self.cells,
+            step,
+        ) {
+            Ok(cells) => {
+                self.cells = cells;
+                self.step = step;
+                Ok(())
+            }
+            Err(fault) => {
+                self.live = false;
+                Err(fault)
+            }
+        }
     }
 
     /// How many steps were taken.
