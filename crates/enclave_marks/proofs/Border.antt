@@ -18,7 +18,7 @@ use Rattle.hanging_nodes.specs.Views.{Shows, IsShown}
 use Rattle.hanging_nodes.proofs.Anchors.{touches_corner}
 use Rattle.hanging_nodes.proofs.TwoGrids.{slot_tells_old}
 use Rattle.curve_cuts.specs.Cuts.{Cuts}
-use Rattle.curve_cuts.specs.Enclave.{OwnsLeaf, HasRefined, IsAtBorder, IsEnclave}
+use Rattle.curve_cuts.specs.Enclave.{OwnsLeaf, HasRefined, IsAtBorder, IsEnclave, IsSkeleton}
 use Rattle.enclave_marks.specs.Corners.{TellsRefined, ShowsBorder}
 
 -- a leaf is a cell of the grid
@@ -76,3 +76,10 @@ module _ (k : Cuts) (g : Spacetree) (t : ℕ) (view : CellView) (same : g.dim �
 
   pub no_enclave : (n : ℕ) → n < corners k.dim → IsVertex k.dim (here n) → ShowsBorder k t (here n) (corner_at view n) → IsEnclave k g t view.key → ⊥
   no_enclave n below vertex h enclave = enclave.1 (n, below, border_of n (corner_at view n) vertex (shows n below) h)
+
+  -- so the leaf is a skeleton leaf
+  pub skeleton_if : (n : ℕ) → n < corners k.dim → IsVertex k.dim (here n) → ShowsBorder k t (here n) (corner_at view n) → IsSkeleton k g t view.key
+  skeleton_if n below vertex h = (owns, (n, below, border_of n (corner_at view n) vertex (shows n below) h))
+
+  pub no_skeleton : ((n : ℕ) → n < corners k.dim → ¬ ShowsBorder k t (here n) (corner_at view n)) → IsSkeleton k g t view.key → ⊥
+  no_skeleton none skeleton = (enclave_if none).1 skeleton.1

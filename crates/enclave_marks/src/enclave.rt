@@ -1,5 +1,5 @@
 //! The test of an owned leaf, corner by corner.
-ghost use Rattle.std.specs.Prelude.{◌≡◌, ◌<◌, ◌≤◌, ◌↔◌, ℕ, IsTrue, false, Some};
+ghost use Rattle.std.specs.Prelude.{◌≡◌, ◌<◌, ◌≤◌, ◌↔◌, ℕ, IsTrue, IsFalse, false, Some};
 ghost use Rattle.peano_keys.specs.Dim.{corners};
 ghost use Rattle.peano_keys.specs.Cell.{IsCell};
 ghost use Rattle.peano_keys.specs.Vertex.{IsVertex, corner_of};
@@ -7,7 +7,7 @@ ghost use Rattle.peano_keys.specs.Grid.{Spacetree};
 ghost use Rattle.peano_records.specs.Tells.{slot_tells, corner_at};
 ghost use Rattle.hanging_nodes.specs.Views.{Shows};
 ghost use Rattle.curve_cuts.specs.Keys.{cuts_of};
-ghost use Rattle.curve_cuts.specs.Enclave.{OwnsLeaf, IsEnclave};
+ghost use Rattle.curve_cuts.specs.Enclave.{OwnsLeaf, IsEnclave, IsSkeleton};
 ghost use Rattle.enclave_marks.specs.Corners.{TellsRefined, ShowsBorder};
 
 use curve_cuts::Keys;
@@ -81,12 +81,13 @@ fn shows_border(keys: &Keys, tree: u32, vertex: VertexKey, corner: &Corner) -> b
 }
 
 /// Whether a leaf that the tree owns is an enclave: none of its corners hangs, no other tree holds a position round one
-/// of them, and no refined cell of the leaf's level is beside one.
+/// of them, and no refined cell of the leaf's level is beside one. Else it is a skeleton leaf.
 pub fn is_enclave(view: &CellView, keys: &Keys, tree: u32) -> bool
     requires cell { IsCell keys.now.dim view.now.key }
     requires level { view.now.key.level ≤ keys.now.depth }
     requires tree { tree < (cuts_of keys.now).trees }
-    ensures { (g : Spacetree) → g.dim ≡ keys.now.dim → Shows keys.now.dim (Some g) g false view.now → OwnsLeaf (cuts_of keys.now) g tree view.now.key → IsTrue result ↔ IsEnclave (cuts_of keys.now) g tree view.now.key }
+    ensures enclave { (g : Spacetree) → g.dim ≡ keys.now.dim → Shows keys.now.dim (Some g) g false view.now → OwnsLeaf (cuts_of keys.now) g tree view.now.key → IsTrue result ↔ IsEnclave (cuts_of keys.now) g tree view.now.key }
+    ensures skeleton { (g : Spacetree) → g.dim ≡ keys.now.dim → Shows keys.now.dim (Some g) g false view.now → OwnsLeaf (cuts_of keys.now) g tree view.now.key → IsFalse result ↔ IsSkeleton (cuts_of keys.now) g tree view.now.key }
 {
     let dim = keys.dim();
     for n in 0..corner_count(dim) {

@@ -79,7 +79,7 @@ records_known k dir w f s is r among =
     }
 
 -- a sweep in the words of its plan
-is_plain : (q : TreeSweep) (plan : SweepPlan) (number : ℕ) (f : States) → q.serves ≡ Plain → q.plan ≡ plan → q.tree ≡ number → q.field ≡ f → q ≡ record { serves = Plain; plan = plan; tree = number; field = f; task = q.task }
+pub is_plain : (q : TreeSweep) (plan : SweepPlan) (number : ℕ) (f : States) → q.serves ≡ Plain → q.plan ≡ plan → q.tree ≡ number → q.field ≡ f → q ≡ record { serves = Plain; plan = plan; tree = number; field = f; task = q.task }
 is_plain q plan number f serves plan_is tree field =
     ap (λ x. record q { serves = x }) serves
     ∙ (ap (λ x. record q { serves = Plain; plan = x }) plan_is

@@ -8,8 +8,8 @@ ghost use Rattle.tree_automaton.specs.Views.{value_in, value_at_home};
 use peano_keys::{CellKey, Dim, Side, Sides, State, home_corner, slot_of};
 use peano_records::{CellView, Corner};
 
-// The value in the slot of the cell at its home corner.
-pub(crate) fn home_value(dim: Dim, view: &CellView) -> State
+/// The value in the slot of a view's cell at its home corner.
+pub fn home_value(dim: Dim, view: &CellView) -> State
     requires { IsCell dim view.now.key }
     ensures { result ≡ value_at_home dim view.now }
 {

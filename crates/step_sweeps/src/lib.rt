@@ -10,7 +10,8 @@ mod sweeps;
 mod tally;
 mod told;
 
-pub use primary::Primary;
+pub use leaf::home_value;
+pub use primary::{Primary, is_own_leaf};
 pub use secondary::Secondary;
 pub use sweeps::{primary_tree, secondary_tree};
 pub use tally::Tally;

@@ -41,8 +41,8 @@ impl<'a, S: Solver> Model for Primary<'a, S> {
     ghost invariant = { λ p. p.tree < (cuts_of p.keys.now).trees };
 }
 
-// Whether a tree owns the leaf of a view.
-pub(crate) fn is_own_leaf(keys: &Keys, tree: u32, view: &CellView) -> bool
+/// Whether a view is of a leaf that a tree owns.
+pub fn is_own_leaf(keys: &Keys, tree: u32, view: &CellView) -> bool
     requires cell { IsCell keys.now.dim view.now.key }
     requires tree { tree < (cuts_of keys.now).trees }
     ensures { IsTrue result ↔ IsOwnLeaf (cuts_of keys.now) tree view.now }
