@@ -1,0 +1,277 @@
+-- A whole showing sweep of a tree.
+use Rattle.std.proofs.Common.{◌≡◌, ℕ, ◌+◌, ◌*◌, ◌<◌, ◌≤◌, true, List, [], ◌∷◌, zero, suc, Some, map, length, refl, ap, sym, ◌∙◌, subst, inl, inr, arith, get_or}
+use Rattle.std.specs.Prelude.{flat_map, All}
+use Rattle.std.specs.FinSet as set
+use Rattle.stack_law.specs.Once.{IsIn}
+use Rattle.peano_keys.specs.declared.cell.CellKey.{CellKey}
+use Rattle.peano_keys.specs.declared.dim.Dim.{Dim}
+use Rattle.peano_keys.specs.Dim.{corners}
+use Rattle.peano_keys.specs.Cell.{IsCell}
+use Rattle.peano_keys.specs.Grid.{Spacetree}
+use Rattle.peano_keys.specs.Field.{States, value_of}
+use Rattle.peano_curve.specs.declared.order.Direction.{Direction}
+use Rattle.peano_records.specs.declared.stored.Stored.{Stored}
+use Rattle.peano_records.specs.declared.view.CellView.{CellView}
+use Rattle.peano_records.specs.Tells.{corner_at}
+use Rattle.curve_cuts.specs.Cuts.{Cuts, range_of}
+use Rattle.curve_cuts.specs.Keys.{cuts_of}
+use Rattle.curve_cuts.specs.Enclave.{IsEnclave, IsSkeleton, OwnsLeaf}
+use Rattle.sweep_visits.specs.Plan.{SweepPlan, IsSweepPlan}
+use Rattle.sweep_visits.specs.Runs.{turned_round}
+use Rattle.sweep_visits.specs.Moves.{moves_of, taken_by, put_by}
+use Rattle.sweep_visits.specs.Visits.{Visit, enter, leave, visits_of}
+use Rattle.sweep_streams.specs.Counts.{pushed_by}
+use Rattle.sweep_streams.specs.Records.{left_at}
+use Rattle.sweep_streams.specs.Streams.{ComesAfter}
+use Rattle.vertex_stacks.specs.declared.kind.Kind.TheVariants as kind
+use Rattle.vertex_stacks.specs.Notes.{Note}
+use Rattle.vertex_stacks.specs.Tales.{capped}
+use Rattle.tree_automaton.specs.declared.kinds.Serves.TheVariants.{Plain}
+use Rattle.tree_automaton.specs.TreeLists.{TreeLists}
+use Rattle.tree_automaton.specs.Sweep.{TreeSweep, IsTreeSweep}
+use Rattle.tree_automaton.specs.Promises.{Meaning}
+use Rattle.tree_automaton.specs.Story.{Call, IsAmong, with_calls}
+use Rattle.tree_automaton.specs.Sweeps.{SweepAsks, SweepGives, Stands, begun, key_of}
+use Rattle.tree_automaton.specs.AtRest.{CanSweep, HasLists, StandsFor, plain_plan}
+use Rattle.tree_automaton.proofs.Collects.{each_call}
+use Rattle.tree_automaton.proofs.Rests.{store_can_be_swept}
+use Rattle.step_phases.specs.Stores.{TreeSays}
+use Rattle.step_phases.specs.Phases.{AtRest}
+use Rattle.step_phases.proofs.Grids.{level_in}
+use Rattle.step_phases.proofs.Sweeps.{swept_says}
+use Rattle.swept_slots.specs.Changes.{EachVisitChanges}
+use Rattle.swept_slots.specs.Copies.{copies}
+use Rattle.swept_slots.specs.Laws.{IsSweptTree}
+use Rattle.swept_slots.proofs.Stores.{has_vertex, rest_is_said, said_is_rest}
+use Rattle.swept_slots.proofs.Swept.{if_held, plain_swept, swept_less}
+use Rattle.swept_slots.proofs.Views.{one_record}
+use Rattle.step_sweeps.specs.Sweeps.{StandsOn}
+use Rattle.step_sweeps.proofs.OwnSlots.{changes_none}
+use Rattle.step_sweeps.proofs.HalfwayViews.{plain_sweep}
+use Rattle.step_sweeps.proofs.SecondaryTree.{is_plain}
+use Rattle.field_report.specs.declared.traffic.Traffic.{Traffic}
+use Rattle.showing_sweep.specs.declared.shown.Shown.{Shown}
+use Rattle.showing_sweep.specs.Counts.{AreSoMany, Counts, ListsAll, NoneTwice}
+use Rattle.showing_sweep.specs.Sent.{IsPairOf, IsVertexOf}
+use Rattle.showing_sweep.specs.Shown.{Amounts, AreAmounts, IsRowOf, IsTraffic}
+use Rattle.showing_sweep.specs.Shows.{ShowWork, ShowEnters, ShowLeaves, nothing_counted}
+use Rattle.showing_sweep.specs.Sweeps.{IsShownTree}
+use Rattle.showing_sweep.proofs.Found.{AreCounted, all_found}
+use Rattle.showing_sweep.proofs.Hanging.{hanging_at}
+use Rattle.showing_sweep.proofs.Moved.{corners_add_up}
+use Rattle.showing_sweep.proofs.Amounts.{cells_many, hanging_many, own_left, put_many, sent_many, taken_is_put, taken_listed}
+use Rattle.showing_sweep.proofs.Calls.{Gathers, all_shown, itself, row_home}
+
+-- what the visitor of a showing sweep means
+abbrev pub showing_meaning : Dim → Meaning
+showing_meaning dim = record { serves = Plain; dim = dim; new_grid = record { dim = dim; refined = set.empty }; may_want = true; loan = 0 }
+
+-- a store that stands for a grid and a field can be shown
+pub can_show : (k : Cuts) (parts : ℕ) (dir : Direction) (g : Spacetree) (f : States) (s : TreeLists) (meaning : Meaning) → StandsOn k parts dir g f s → meaning.serves ≡ Plain → meaning.dim ≡ k.dim → CanSweep (plain_plan k.depth (range_of k s.tree) dir g) s.tree f meaning kind.Show s
+can_show k parts dir g f s meaning on serves dim = store_can_be_swept k.depth (range_of k s.tree) s.tree dir g f s meaning kind.Show on.grid.deepest on.grid.grid on.stands refl serves (dim ∙ sym on.grid.dim)
+
+in_at : (xs : List Stored) (i : ℕ) (d : Stored) → i < length xs → IsIn (get_or xs i d) xs
+in_at [] i d below = absurd (omega (arith, below))
+in_at (x ∷ xs) zero d below = inl refl
+in_at (x ∷ xs) (suc i) d below = inr (in_at xs i d (omega (arith, below)))
+
+-- its vertices are some of the domain
+pub vertices_of : (k : Cuts) (parts : ℕ) (dir : Direction) (g : Spacetree) (f : States) (s : TreeLists) → StandsOn k parts dir g f s → All (λ (r : Stored). IsVertexOf k r.key) s.lanes.input
+vertices_of k parts dir g f s on i d below =
+    let r : Stored = get_or s.lanes.input i d in
+    let has = has_vertex k g s.tree s.tree dir s on.grid on.stands.lists on.tree r (in_at s.lanes.input i d below) in
+    let inside : IsCell g.dim has.corner.cell = subst (λ d. IsCell d has.corner.cell) (sym on.grid.dim) has.corner.inside in
+    record {
+      vertex = has.vertex;
+      level = subst (λ l. l ≤ k.depth) has.corner.touches.level (level_in k g has.corner.cell on.grid (has.stored has.corner.cell inside has.corner.touches));
+    }
+
+-- traffic by its numbers
+pub same_traffic : (a b : Traffic) → a.tree ≡ b.tree → a.cells ≡ b.cells → a.stored ≡ b.stored → a.pushes ≡ b.pushes → a.hanging ≡ b.hanging → a.enclave ≡ b.enclave → a.skeleton ≡ b.skeleton → a.sent ≡ b.sent → a ≡ b
+same_traffic a b tree cells stored pushes hanging enclave skeleton sent =
+    ap (λ x. record a { tree = x }) tree
+    ∙ (ap (λ x. record a { tree = b.tree; cells = x }) cells
+    ∙ (ap (λ x. record a { tree = b.tree; cells = b.cells; stored = x }) stored
+    ∙ (ap (λ x. record a { tree = b.tree; cells = b.cells; stored = b.stored; pushes = x }) pushes
+    ∙ (ap (λ x. record a { tree = b.tree; cells = b.cells; stored = b.stored; pushes = b.pushes; hanging = x }) hanging
+    ∙ (ap (λ x. record b { enclave = x; skeleton = a.skeleton; sent = a.sent }) enclave
+    ∙ (ap (λ x. record b { skeleton = x; sent = a.sent }) skeleton
+    ∙ ap (λ x. record b { sent = x }) sent))))))
+
+module _ (start end : ShowWork) (dir : Direction) (g : Spacetree) (f : States) (parts step : ℕ) (s t : TreeLists) (note : Note) (task : CellKey → ℕ)
+    (on : StandsOn (cuts_of start.keys) parts dir g f s) (same_tree : start.tree ≡ s.tree) (no_rows : start.rows ≡ []) (nothing : start.counts ≡ nothing_counted)
+    (tree : IsSweptTree ShowEnters ShowLeaves (cuts_of start.keys) start.tree (plain_sweep (cuts_of start.keys) start.tree dir g f s.tree task) step kind.Show s t start end note) where
+  abbrev k : Cuts
+  k = cuts_of start.keys
+
+  abbrev p : TreeSweep
+  p = plain_sweep k start.tree dir g f s.tree task
+
+  -- no call changes a view
+  stays : (call : Call) → IsAmong call tree.gives.calls → call.made ≡ call.given
+  stays = each_call ShowEnters ShowLeaves (begun p s.lanes.input s.lanes.tale) (λ a. Unit {0}) (λ call. call.made ≡ call.given) (λ so_far call a b same fits stands. (tt, by call.visit call.given call.made a b stands)) [] tree.gives.calls start end tree.gives.fit tree.gives.chain tt
+    where
+      by : (visit : Visit) (v u : CellView) (a b : ShowWork) → Stands ShowEnters ShowLeaves visit v u a b → u ≡ v
+      by (enter c) v u a b h = h.0
+      by (leave c) v u a b h = h.0
+
+  each_visit : EachVisitChanges (with_calls (begun p s.lanes.input s.lanes.tale) tree.gives.calls) (λ c x y. y ≡ x)
+  each_visit c n a b low changed =
+      let first : changed.between ≡ a = one_record (corner_at changed.entering.made n) a changed.between (ap (λ (v : CellView). corner_at v n) (stays changed.entering changed.entering_among) ∙ changed.given) changed.kept in
+      let second : b ≡ changed.between = one_record (corner_at changed.leaving.made n) changed.between b (ap (λ (v : CellView). corner_at v n) (stays changed.leaving changed.leaving_among ∙ changed.same) ∙ changed.kept) changed.made in
+      changes_none g.dim c (λ x y. y ≡ x) a b (second ∙ first) (λ x. refl)
+
+  -- so the copies say what they said
+  pub says_after : TreeSays k g start.tree (AtRest g (value_of g f)) (copies s.lanes.input) → TreeSays k g start.tree (AtRest g (value_of g f)) (copies t.lanes.input)
+  says_after before v has =
+      swept_says k v (AtRest g (value_of g f)) (AtRest g (value_of g f)) (λ c x y. y ≡ x) (copies s.lanes.input v) (copies t.lanes.input v) (before v has)
+      (swept_less k _ (λ c x y. y ≡ x) v (copies s.lanes.input v) (copies t.lanes.input v) (if_held k start.tree (λ c x y. y ≡ x) (λ c x y. y ≡ x) (λ c a b h. h) (λ c a none. refl))
+      (plain_swept ShowEnters ShowLeaves k start.tree p step kind.Show s t start end note (λ c x y. y ≡ x) tree refl each_visit v has))
+      (λ n c below at is same. subst (AtRest g (value_of g f) c) (sym same) is)
+
+  -- what was gathered in all calls
+  gathered : Gathers start g dir f s.tree task on.grid s.lanes.input s.lanes.tale tree.gives.calls tree.gives.visits_are tree.gives.fit (flat_map left_at (visits_of p.plan)) end.rows end.counts
+  gathered = subst (λ vs. Gathers start g dir f s.tree task on.grid s.lanes.input s.lanes.tale tree.gives.calls tree.gives.visits_are tree.gives.fit (flat_map left_at vs) end.rows end.counts) tree.gives.visits_are
+      (all_shown start g dir f s.tree task on.grid s.lanes.input s.lanes.tale tree.gives.calls tree.gives.visits_are tree.gives.fit end no_rows nothing tree.gives.chain).gathers
+
+  tree_below : start.tree < k.trees
+  tree_below = subst (λ n. n < k.trees) (sym same_tree) on.tree
+
+  pub rows_shown : ListsAll (IsRowOf k g f start.tree) end.rows
+  rows_shown = all_found row_home (IsRowOf k g f start.tree) (IsRowOf k g f start.tree) (flat_map left_at (visits_of p.plan)) end.rows gathered.rows_are (λ r. ((λ h. h.1), (λ h. (own_left k start.tree dir g on.grid tree_below r.key h.owned, h))))
+
+  -- leaves of one kind
+  leaves_many : (P : CellKey → Type 0) (n : ℕ) → ((c : CellKey) → P c → OwnsLeaf k g start.tree c) → (counted : AreCounted itself P (flat_map left_at (visits_of p.plan)) n) → AreSoMany P (length counted.things)
+  leaves_many P n owns counted = record {
+    things = counted.things;
+    lists = all_found itself P P (flat_map left_at (visits_of p.plan)) counted.things counted.found (λ c. ((λ h. h.1), (λ h. (own_left k start.tree dir g on.grid tree_below c (owns c h), h))));
+    count = refl;
+  }
+
+  module _ (sent : ℕ) (pairs : Counts (IsPairOf k start.tree (taken_by (moves_of p.plan))) sent) where
+    abbrev amounts : Amounts
+    amounts = record {
+      cells = length (flat_map left_at (visits_of p.plan));
+      stored = length (put_by (moves_of p.plan));
+      pushes = length (pushed_by (moves_of p.plan));
+      hanging = length (flat_map (hanging_at g) (flat_map left_at (visits_of p.plan)));
+      enclave = length gathered.enclave.things;
+      skeleton = length gathered.skeleton.things;
+      sent = pairs.many;
+    }
+
+    are_amounts : AreAmounts k g start.tree amounts
+    are_amounts = record {
+      cells = cells_many k start.tree dir g on.grid tree_below;
+      stored = put_many k start.tree dir g on.grid tree_below;
+      hanging = hanging_many k start.tree dir g on.grid tree_below;
+      enclave = leaves_many (IsEnclave k g start.tree) end.counts.enclave (λ c h. h.0) gathered.enclave;
+      skeleton = leaves_many (IsSkeleton k g start.tree) end.counts.skeleton (λ c h. h.0) gathered.skeleton;
+      sent = sent_many k start.tree dir g on.grid tree_below pairs.many pairs.are;
+      pushes = subst (λ d. amounts.pushes + amounts.hanging + amounts.stored ≡ amounts.cells * corners d) on.grid.dim (corners_add_up k.depth (range_of k start.tree) dir g);
+    }
+
+    abbrev told_by : ShowWork → Note → Traffic
+    told_by x n = record { tree = start.tree; cells = x.counts.cells; stored = n.put; pushes = n.pushed; hanging = x.counts.hanging; enclave = x.counts.enclave; skeleton = x.counts.skeleton; sent = sent }
+
+    pub traffic_told : IsTraffic k g start.tree (told_by end note)
+    traffic_told = record {
+      amounts = amounts;
+      are = are_amounts;
+      told = same_traffic (told_by end note) _ refl gathered.cells_are (ap (λ (n : Note). n.put) tree.gives.note_is) (ap (λ (n : Note). n.pushed) tree.gives.note_is) gathered.hanging gathered.enclave.told gathered.skeleton.told pairs.told;
+    }
+
+module _ (start end : ShowWork) (dir : Direction) (g : Spacetree) (f : States) (parts step : ℕ) (s t : TreeLists) (note : Note) (meaning : Meaning) (shown : Shown)
+    (on : StandsOn (cuts_of start.keys) parts dir g f s) (same_tree : start.tree ≡ s.tree) (no_rows : start.rows ≡ []) (nothing : start.counts ≡ nothing_counted)
+    (asked : CanSweep (plain_plan (cuts_of start.keys).depth (range_of (cuts_of start.keys) s.tree) dir g) s.tree f meaning kind.Show s)
+    (gives : SweepGives ShowEnters ShowLeaves asked.sweep step kind.Show s.lanes.input s.lanes.tale t start end note)
+    (rest : (q : SweepPlan) → IsSweepPlan q → ComesAfter asked.sweep.plan q → HasLists q asked.sweep.tree t)
+    (sent : ℕ) (pairs : NoneTwice (map key_of s.lanes.input) → Counts (IsPairOf (cuts_of start.keys) s.tree (map key_of s.lanes.input)) sent)
+    (rows_are : shown.rows.items ≡ end.rows)
+    (traffic_is : shown.traffic ≡ record { tree = s.tree; cells = end.counts.cells; stored = note.put; pushes = note.pushed; hanging = end.counts.hanging; enclave = end.counts.enclave; skeleton = end.counts.skeleton; sent = sent }) where
+  abbrev cuts : Cuts
+  cuts = cuts_of start.keys
+
+  abbrev q : TreeSweep
+  q = asked.sweep
+
+  plain : q ≡ plain_sweep cuts start.tree dir g f s.tree q.task
+  plain = is_plain q (plain_plan cuts.depth (range_of cuts start.tree) dir g) s.tree f (sym asked.asks.served) (asked.plan_is ∙ ap (λ n. plain_plan cuts.depth (range_of cuts n) dir g) (sym same_tree)) asked.tree_is asked.field_is
+
+  swept : IsSweptTree ShowEnters ShowLeaves cuts start.tree (plain_sweep cuts start.tree dir g f s.tree q.task) step kind.Show s t start end note
+  swept = record {
+    sweep = subst IsTreeSweep plain asked.asks.sweep;
+    tree = record { dim = on.grid.dim; depth = refl; range = refl };
+    keys = subst (λ (x : TreeSweep). map key_of s.lanes.input ≡ taken_by (moves_of x.plan)) plain asked.asks.rest.input;
+    gives = subst (λ x. SweepGives ShowEnters ShowLeaves x step kind.Show s.lanes.input s.lanes.tale t start end note) plain gives;
+  }
+
+  abbrev next : SweepPlan
+  next = plain_plan cuts.depth (range_of cuts s.tree) (turned_round dir) g
+
+  lists : HasLists next s.tree t
+  lists = subst (λ n. HasLists next n t) asked.tree_is (rest next (record { depth = on.grid.deepest; old = (on.grid.grid, refl); new = on.grid.grid }) (record {
+    depth = sym (ap (λ (x : SweepPlan). x.depth) asked.plan_is);
+    range = sym (ap (λ (x : SweepPlan). x.range) asked.plan_is);
+    dir = sym (ap (λ (x : SweepPlan). turned_round x.dir) asked.plan_is);
+    old = sym (ap (λ (x : SweepPlan). Some x.new) asked.plan_is);
+  }))
+
+  says : TreeSays cuts g s.tree (AtRest g (value_of g f)) (copies t.lanes.input)
+  says = subst (λ n. TreeSays cuts g n (AtRest g (value_of g f)) (copies s.lanes.input) → TreeSays cuts g n (AtRest g (value_of g f)) (copies t.lanes.input)) same_tree
+      (says_after start end dir g f parts step s t note q.task on same_tree no_rows nothing swept) (rest_is_said cuts g f s.tree s.tree dir s on.grid on.stands)
+
+  noted_by : SweepPlan → ℕ → Note
+  noted_by x n = record { step = step; kind = kind.Show; tree = n; taken = capped (length (taken_by (moves_of x))); put = capped (length (put_by (moves_of x))); pushed = capped (length (pushed_by (moves_of x))) }
+
+  abbrev here : SweepPlan
+  here = plain_plan cuts.depth (range_of cuts s.tree) dir g
+
+  note_here : note ≡ noted_by here s.tree
+  unfolding noted_by
+  note_here = gives.note_is ∙ (ap (λ x. noted_by x q.tree) asked.plan_is ∙ ap (noted_by here) asked.tree_is)
+
+  pairs_here : Counts (IsPairOf cuts s.tree (taken_by (moves_of here))) sent
+  pairs_here = subst (λ vs. NoneTwice vs → Counts (IsPairOf cuts s.tree vs) sent) on.stands.lists.input pairs (taken_listed cuts s.tree dir g on.grid on.tree).once
+
+  traffic : IsTraffic cuts g s.tree shown.traffic
+  traffic = subst (IsTraffic cuts g s.tree) (sym traffic_is) (subst (λ n. Counts (IsPairOf cuts n (taken_by (moves_of (plain_plan cuts.depth (range_of cuts n) dir g)))) sent → IsTraffic cuts g n (record { tree = n; cells = end.counts.cells; stored = note.put; pushes = note.pushed; hanging = end.counts.hanging; enclave = end.counts.enclave; skeleton = end.counts.skeleton; sent = sent })) same_tree
+      (λ pairs. traffic_told start end dir g f parts step s t note q.task on same_tree no_rows nothing swept sent pairs) pairs_here)
+
+  put_is : note.put ≡ shown.traffic.stored
+  put_is = sym (ap (λ (x : Traffic). x.stored) traffic_is)
+
+  taken_is : note.taken ≡ note.put
+  unfolding noted_by
+  taken_is = ap (λ (n : Note). n.taken) note_here ∙ (ap capped (taken_is_put cuts s.tree dir g on.grid on.tree) ∙ sym (ap (λ (n : Note). n.put) note_here))
+
+  -- what a showing sweep makes of a tree, and what it shows
+  pub tree_shown : IsShownTree cuts parts dir g f step s t note shown
+  unfolding noted_by
+  tree_shown = record {
+    tree = lists.tree;
+    stands = record {
+      grid = on.grid;
+      field = on.field;
+      tree = subst (λ n. n < cuts.trees) (sym lists.tree) on.tree;
+      stands = subst (λ n. StandsFor cuts.depth (range_of cuts n) n (turned_round dir) g f t) (sym lists.tree) (said_is_rest cuts g f s.tree s.tree (turned_round dir) t on.grid on.tree lists says);
+    };
+    rows = subst (ListsAll (IsRowOf cuts g f s.tree)) (sym rows_are) (subst (λ n. ListsAll (IsRowOf cuts g f n) end.rows) same_tree (rows_shown start end dir g f parts step s t note q.task on same_tree no_rows nothing swept));
+    traffic = traffic;
+    noted = record { note_is = note_here; tale = gives.tale_is };
+    moved = record { taken = taken_is ∙ put_is; put = put_is; pushed = sym (ap (λ (x : Traffic). x.pushes) traffic_is) };
+  }
+
+-- so of the visitor that was made for the sweep
+pub shown_told : (start end made : ShowWork) (dir : Direction) (g : Spacetree) (f : States) (parts step : ℕ) (s t : TreeLists) (note : Note) (shown : Shown) (sent : ℕ) → start ≡ made → made.rows ≡ [] → made.counts ≡ nothing_counted → made.tree ≡ s.tree → StandsOn (cuts_of made.keys) parts dir g f s →
+    ((q : TreeSweep) → SweepAsks q (showing_meaning start.keys.dim) kind.Show s → SweepGives ShowEnters ShowLeaves q step kind.Show s.lanes.input s.lanes.tale t start end note) →
+    ((q : TreeSweep) → SweepAsks q (showing_meaning start.keys.dim) kind.Show s → (n : SweepPlan) → IsSweepPlan n → ComesAfter q.plan n → HasLists n q.tree t) →
+    (NoneTwice (map key_of s.lanes.input) → Counts (IsPairOf (cuts_of made.keys) s.tree (map key_of s.lanes.input)) sent) → shown.rows.items ≡ end.rows →
+    shown.traffic ≡ record { tree = s.tree; cells = end.counts.cells; stored = note.put; pushes = note.pushed; hanging = end.counts.hanging; enclave = end.counts.enclave; skeleton = end.counts.skeleton; sent = sent } →
+    IsShownTree (cuts_of made.keys) parts dir g f step s t note shown
+shown_told start end made dir g f parts step s t note shown sent is no_rows nothing tree on done rest pairs rows_are traffic_is =
+    subst (λ (y : ShowWork). y.rows ≡ [] → y.counts ≡ nothing_counted → y.tree ≡ s.tree → StandsOn (cuts_of y.keys) parts dir g f s → (NoneTwice (map key_of s.lanes.input) → Counts (IsPairOf (cuts_of y.keys) s.tree (map key_of s.lanes.input)) sent) → IsShownTree (cuts_of y.keys) parts dir g f step s t note shown) is
+    (λ rows_here counts_here tree_here on_here pairs_here.
+    let asked = can_show (cuts_of start.keys) parts dir g f s (showing_meaning start.keys.dim) on_here refl refl in
+    tree_shown start end dir g f parts step s t note (showing_meaning start.keys.dim) shown on_here tree_here rows_here counts_here asked (done asked.sweep asked.asks) (rest asked.sweep asked.asks) sent pairs_here rows_are traffic_is)
+    no_rows nothing tree on pairs

@@ -1,0 +1,5 @@
+pub mod Counts
+pub mod Sent
+pub mod Shows
+pub mod Shown
+pub mod Sweeps

@@ -1,0 +1,74 @@
+-- What the visitor of a showing sweep does.
+use Rattle.std.specs.Prelude.{◌≡◌, ◌⊎◌, ◌↔◌, ℕ, ◌+◌, Bool, true, false, IsTrue, IsFalse, List, [], ◌∷◌, ◌++◌, count_by, Some}
+use Rattle.peano_keys.specs.declared.dim.Dim.{Dim}
+use Rattle.peano_keys.specs.Grid.{Spacetree}
+use Rattle.peano_records.specs.declared.view.Corner.{Corner}
+use Rattle.peano_records.specs.declared.view.Corner.TheVariants.{Vertex, Hanging, Beyond}
+use Rattle.peano_records.specs.declared.view.CellView.{CellView}
+use Rattle.hanging_nodes.specs.Views.{Shows}
+use Rattle.vertex_stacks.specs.Tales.{capped}
+use Rattle.curve_cuts.specs.Keys.{CutPoints, cuts_of}
+use Rattle.curve_cuts.specs.Enclave.{OwnsLeaf, IsEnclave, IsSkeleton}
+use Rattle.spacetree.specs.declared.row.Row.{Row}
+use Rattle.tree_automaton.specs.Views.{value_at_home}
+use Rattle.step_sweeps.specs.Kernels.{IsOwnLeaf}
+use Rattle.showing_sweep.specs.declared.counts.CellCounts.{CellCounts}
+
+-- the keys and the number of its tree, and the rows and the counts so far
+pub record ShowWork : Type 0 where
+  pub keys : CutPoints
+  pub tree : ℕ
+  pub rows : List Row
+  pub counts : CellCounts
+
+-- the counts as a sweep begins
+abbrev pub nothing_counted : CellCounts
+nothing_counted = record { cells = 0; hanging = 0; enclave = 0; skeleton = 0 }
+
+-- whether a corner hangs
+abbrev pub is_hanging : Corner → Bool
+is_hanging (Vertex s) = false
+is_hanging (Hanging k) = true
+is_hanging Beyond = false
+
+-- how many corners of a view hang
+abbrev pub hanging_in : CellView → ℕ
+hanging_in v = count_by is_hanging v.corners
+
+-- the row of a leaf, with the value that its view shows
+abbrev pub row_in : Dim → CellView → Row
+row_in dim v = record { key = v.key; value = value_at_home dim v }
+
+-- one cell more
+abbrev pub with_cell : CellView → CellCounts → CellCounts
+with_cell v n = record n { cells = capped (n.cells + 1); hanging = capped (n.hanging + hanging_in v) }
+
+-- one leaf more that the tree owns
+abbrev pub with_leaf : Bool → CellCounts → CellCounts
+with_leaf true n = record n { enclave = capped (n.enclave + 1) }
+with_leaf false n = record n { skeleton = capped (n.skeleton + 1) }
+
+-- whether a leaf of the tree is an enclave, as its view decides
+pub record DecidesEnclave (keys : CutPoints) (t : ℕ) (v : CellView) (b : Bool) : Type 0 where
+  pub enclave : (g : Spacetree) → g.dim ≡ keys.dim → Shows keys.dim (Some g) g false v → OwnsLeaf (cuts_of keys) g t v.key → IsTrue b ↔ IsEnclave (cuts_of keys) g t v.key
+  pub skeleton : (g : Spacetree) → g.dim ≡ keys.dim → Shows keys.dim (Some g) g false v → OwnsLeaf (cuts_of keys) g t v.key → IsFalse b ↔ IsSkeleton (cuts_of keys) g t v.key
+
+-- a leaf of the tree gives a row
+pub record LeafShown (a : ShowWork) (v : CellView) (b : ShowWork) : Type 0 where
+  pub own : IsOwnLeaf (cuts_of a.keys) a.tree v
+  pub enclave : Bool
+  pub decides : DecidesEnclave a.keys a.tree v enclave
+  pub shown : b ≡ record a { rows = a.rows ++ row_in a.keys.dim v ∷ []; counts = with_leaf enclave (with_cell v a.counts) }
+
+-- any other cell is counted alone
+pub record OtherShown (a : ShowWork) (v : CellView) (b : ShowWork) : Type 0 where
+  pub other : ¬ IsOwnLeaf (cuts_of a.keys) a.tree v
+  pub shown : b ≡ record a { counts = with_cell v a.counts }
+
+-- as a cell is entered nothing is done
+abbrev pub ShowEnters : ShowWork → CellView → CellView → ShowWork → Type 0
+ShowEnters a v w b = (w ≡ v) × (b ≡ a)
+
+-- as it is left it is shown, and its view stays
+abbrev pub ShowLeaves : ShowWork → CellView → CellView → ShowWork → Type 0
+ShowLeaves a v w b = (w ≡ v) × (LeafShown a v b ⊎ OtherShown a v b)

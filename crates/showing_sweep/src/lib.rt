@@ -1,0 +1,12 @@
+//! The showing sweep of a tree: it changes nothing, gathers the rows of the leaves that the tree owns, and counts what
+//! the tree holds of the grid and moves over it.
+#![tactic(auto)]
+
+mod counts;
+mod rows;
+mod sent;
+mod show;
+mod shown;
+
+pub use show::Show;
+pub use shown::{Shown, show_tree};
