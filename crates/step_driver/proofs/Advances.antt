@@ -14,11 +14,13 @@ use Rattle.tree_automaton.specs.TreeLists.{TreeLists}
 use Rattle.step_sweeps.specs.Kernels.{Kernel}
 use Rattle.step_driver.specs.Advances.{Advanced, Stopped}
 use Rattle.step_driver.specs.Stepping.{TookStep, StoppedStep}
+use Rattle.step_driver.specs.declared.showing.Shown.{Shown}
+use Rattle.step_driver.specs.Showing.{ShowTrees, IsShown}
 use Rattle.step_driver.specs.Starts.{AreStarted}
 use Rattle.step_driver.specs.Worlds.{Seen, IsAt, AreAt}
 
--- the stores as a list that is written back whole
-pub written_back : (before after : List TreeLists) (len : ℕ) → len ≡ length before → length after ≡ length before → after ≡ take len (after ++ drop (length after) before)
+-- a list that is written back whole
+pub written_back : {A : Type 0} (before after : List A) (len : ℕ) → len ≡ length before → length after ≡ length before → after ≡ take len (after ++ drop (length after) before)
 written_back before after len is same = sym (subst (λ n. take n (after ++ drop (length after) before) ≡ after) (same ∙ sym is) (take-append_seam after (drop (length after) before)))
 
 module _ {S : Type 0} (kernel : Kernel) (adapts : Bool) (g : Spacetree) (f : States) (w : Seen S) where
@@ -39,3 +41,14 @@ module _ {S : Type 0} (kernel : Kernel) (adapts : Bool) (g : Spacetree) (f : Sta
 -- trees as they start are at the grid and the field
 pub starts_at : (parts : ℕ) (k : Cuts) (g : Spacetree) (f : States) (stores : List TreeLists) (notes : List Note) (cells : ℕ) → IsCutGrid k g → IsFieldOn parts g f → AreStarted k g f stores notes → cells ≡ cells_of g → cells_of g ≤ 200000 → AreAt parts k stores notes cells g f
 starts_at parts k g f stores notes cells fits field h counted room = record { fits = fits; field = field; dir = Backward; stand = h.stand; tales = h.tales; counted = counted; room = room }
+
+-- a world that was shown
+pub world_shown : {S : Type 0} (parts : ℕ) (g : Spacetree) (f : States) (w : Seen S) (stores : List TreeLists) (notes : List Note) (shown : Shown) → IsAt parts w g f w.step → ShowTrees parts (cuts_of w.keys) g f w.step w.cells stores w.notes notes shown →
+    IsShown parts g f w (record { solver = w.solver; keys = w.keys; stores = stores; cells = w.cells; step = w.step; notes = notes; live = w.live }) shown
+world_shown parts g f w stores notes shown at h = record {
+  step_is = h.step_is;
+  rows = h.rows;
+  traffic = h.traffic;
+  at = record { live = at.live; step_is = refl; trees = h.at };
+  noted = h.noted;
+}

@@ -19,3 +19,6 @@ pub mod Began
 pub mod Stepped
 pub mod Taken
 pub mod Advances
+pub mod Showns
+pub mod InOrder
+pub mod Rests

@@ -12,3 +12,4 @@ pub mod Sizes
 pub mod Refusing
 pub mod Stepping
 pub mod Advances
+pub mod Showing

@@ -11,9 +11,11 @@ mod keys;
 pub mod laws;
 mod raising;
 mod refusing;
+mod showing;
 mod size;
 mod stepping;
 mod world;
 
+pub use showing::Shown;
 pub use spacetree::EvalFault as StepFault;
 pub use world::World;

@@ -9,9 +9,11 @@ ghost use Rattle.step_driver.specs.Notes.{sizes_of};
 ghost use Rattle.step_driver.specs.Worlds.{IsAt};
 ghost use Rattle.step_driver.specs.Starts.{AreFirstKeys};
 ghost use Rattle.step_driver.specs.Advances.{IsAdvanced};
+ghost use Rattle.step_driver.specs.Showing.{Shows};
 
 use crate::keys::first_keys;
 use crate::raising::{Forest, plant};
+use crate::showing::{Shown, show_trees};
 use crate::stepping::take_step;
 use curve_cuts::Keys;
 use solver_api::Solver;
@@ -119,6 +121,25 @@ impl<S: Solver> World<S> {
             Err(fault) => {
                 self.live = false;
                 Err(fault)
+            }
+        }
+    }
+
+    /// Shows the world: the rows of its field in key order, and the traffic of each tree. It stays where it is. It is refused
+    /// for want of memory alone, and then it is not live.
+    pub fn show(&mut self, alloc: Global) -> Result<Shown, AllocError>
+        requires { self.old.live ≡ true }
+        ensures solver { self.new.solver ≡ self.old.solver }
+        ensures keys { self.new.keys ≡ self.old.keys }
+        ensures shown { (g : Spacetree) (f : States) → IsAt (S.parts_of self.old.solver) self.old g f self.old.step → Shows (S.parts_of self.old.solver) g f self.old self.new result }
+    {
+        let stores = self.forest.stores.as_mut_slice();
+        let notes = &mut self.forest.notes;
+        match show_trees(alloc, stores, notes, &self.keys, self.step) {
+            Ok(shown) => Ok(shown),
+            Err(error) => {
+                self.live = false;
+                Err(error)
             }
         }
     }

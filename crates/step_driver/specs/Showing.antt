@@ -1,0 +1,84 @@
+-- The showing sweeps of all trees, one tree after another, and what a world shows.
+use Rattle.std.specs.Prelude.{◌≡◌, ◌≢◌, ℕ, ◌<◌, false, List, ◌++◌, length, slice_index_or, Some, Result, Ok, Err}
+use Rattle.std.specs.FinMap as fin
+use Rattle.peano_keys.specs.Grid.{Spacetree}
+use Rattle.peano_keys.specs.Field.{States}
+use Rattle.peano_curve.specs.declared.order.Direction.{Direction}
+use Rattle.curve_cuts.specs.Cuts.{Cuts}
+use Rattle.curve_cuts.specs.Keys.{cuts_of}
+use Rattle.spacetree.specs.declared.row.Row.{Row}
+use Rattle.spacetree.specs.Fields.{rows_of}
+use Rattle.field_report.specs.declared.traffic.Traffic.{Traffic}
+use Rattle.vertex_stacks.specs.declared.kind.Kind.TheVariants as kind
+use Rattle.vertex_stacks.specs.Notes.{Note}
+use Rattle.vertex_stacks.specs.Tales.{with_note}
+use Rattle.sweep_visits.specs.Runs.{turned_round}
+use Rattle.tree_automaton.specs.TreeLists.{TreeLists}
+use Rattle.step_world.specs.Notes.{note_over, by_trees}
+use Rattle.step_sweeps.specs.Sweeps.{StandsOn}
+use Rattle.showing_sweep.specs.declared.shown.Shown.{Shown as ShownTree}
+use Rattle.showing_sweep.specs.Counts.{ListsAll}
+use Rattle.showing_sweep.specs.Shown.{IsRowOf, IsTraffic}
+use Rattle.showing_sweep.specs.Sweeps.{IsShownTree}
+use Rattle.step_driver.specs.declared.showing.Shown.{Shown}
+use Rattle.step_driver.specs.Notes.{sizes_of, AddsFirst}
+use Rattle.step_driver.specs.Stores.{store_of, ChangesFirst}
+use Rattle.step_driver.specs.Worlds.{AreAt, Seen, IsAt}
+
+-- one tree was shown, and the stores of all others are as they were
+pub record IsShownAt (k : Cuts) (step t : ℕ) (before after : List TreeLists) (note : Note) (shown : ShownTree) : Type 0 where
+  pub count : length after ≡ length before
+  pub swept : (parts : ℕ) (dir : Direction) (g : Spacetree) (f : States) → StandsOn k parts dir g f (store_of before t) → IsShownTree k parts dir g f step (store_of before t) (store_of after t) note shown
+  pub others : (s : ℕ) → s ≢ t → store_of after s ≡ store_of before s
+
+-- what a showing sweep makes of the store of a tree: it stands for the same grid and field, read the other way, and the tale has one note more
+pub record IsShownStore (k : Cuts) (parts : ℕ) (dir : Direction) (g : Spacetree) (f : States) (step t : ℕ) (before after : TreeLists) : Type 0 where
+  pub number : after.tree ≡ t
+  pub stands : StandsOn k parts (turned_round dir) g f after
+  pub tale : after.lanes.tale ≡ with_note before.lanes.tale (note_over (sizes_of k) step kind.Show g t)
+
+-- the row of a leaf that one of the first trees owns, with its state
+abbrev pub IsRowOfFirst : Cuts → Spacetree → States → ℕ → Row → Type 0
+IsRowOfFirst k g f m row = (t : ℕ) × (t < m) × IsRowOf k g f t row
+
+-- the traffic of the first trees, by number
+pub record AreTraffic (k : Cuts) (g : Spacetree) (m : ℕ) (list : List Traffic) : Type 0 where
+  pub count : length list ≡ m
+  pub each : (t : ℕ) (d : Traffic) → t < m → IsTraffic k g t (slice_index_or list t d)
+
+-- so the stores of the first trees; their notes, the rows of their leaves, each once, and their traffic
+pub record AreShown (k : Cuts) (parts : ℕ) (dir : Direction) (g : Spacetree) (f : States) (step m : ℕ) (before after : List TreeLists) (old new : List Note) (shown : Shown) : Type 0 where
+  pub trees : ChangesFirst (IsShownStore k parts dir g f step) m before after
+  pub noted : new ≡ old ++ by_trees m (note_over (sizes_of k) step kind.Show g)
+  pub rows : ListsAll (IsRowOfFirst k g f m) shown.rows.items
+  pub traffic : AreTraffic k g m shown.traffic.items
+
+-- rows are those of a field, each once, in some order
+abbrev pub AreRowsOf : States → List Row → Type 0
+AreRowsOf f rows = ListsAll (λ (row : Row). fin.get f row.key ≡ Some row.value) rows
+
+-- All trees were shown, which are at a grid and a field: the rows of the field in key order, and the traffic of each tree. They are still there.
+pub record ShowTrees (parts : ℕ) (k : Cuts) (g : Spacetree) (f : States) (step cells : ℕ) (stores : List TreeLists) (old new : List Note) (shown : Shown) : Type 0 where
+  pub step_is : shown.step ≡ step
+  pub rows : shown.rows.items ≡ rows_of f
+  pub traffic : AreTraffic k g k.trees shown.traffic.items
+  pub at : AreAt parts k stores new cells g f
+  pub noted : new ≡ old ++ by_trees k.trees (note_over (sizes_of k) step kind.Show g)
+
+-- A world was shown: the rows of the field in key order, and the traffic of each tree. It is at the same grid and field.
+pub record IsShown {S : Type 0} (parts : ℕ) (g : Spacetree) (f : States) (before after : Seen S) (shown : Shown) : Type 0 where
+  pub step_is : shown.step ≡ before.step
+  pub rows : shown.rows.items ≡ rows_of f
+  pub traffic : AreTraffic (cuts_of before.keys) g (cuts_of before.keys).trees shown.traffic.items
+  pub at : IsAt parts after g f before.step
+  pub noted : after.notes ≡ before.notes ++ by_trees (cuts_of before.keys).trees (note_over (sizes_of (cuts_of before.keys)) before.step kind.Show g)
+
+-- or memory was wanting: it is no longer live
+pub record IsNotShown {S : Type 0} (g : Spacetree) (before after : Seen S) : Type 0 where
+  pub live : after.live ≡ false
+  pub noted : AddsFirst before.notes after.notes (by_trees (cuts_of before.keys).trees (note_over (sizes_of (cuts_of before.keys)) before.step kind.Show g))
+
+-- one of both, by the answer
+abbrev pub Shows : {S E : Type 0} → ℕ → Spacetree → States → Seen S → Seen S → Result Shown E → Type 0
+Shows parts g f before after (Ok shown) = IsShown parts g f before after shown
+Shows parts g f before after (Err e) = IsNotShown g before after
