@@ -12,6 +12,8 @@ mod intending;
 #[cfg(test)]
 mod raising;
 #[cfg(test)]
+mod rows;
+#[cfg(test)]
 mod showing;
 #[cfg(test)]
 mod trees;

@@ -103,7 +103,7 @@ fn watch(
 }
 
 // There is one tree.
-fn expect_one(rt: &impl Abort, keys: &Keys)
+pub(crate) fn expect_one(rt: &impl Abort, keys: &Keys)
     ensures { (cuts_of keys.now).trees ≡ 1 }
 {
     assert!(rt; keys.trees() == 1);
