@@ -41,7 +41,7 @@ in_numbers m zero n h = absurd h
 in_numbers m (suc k) n (inl e) = (omega (arith, e), omega (arith, e))
 in_numbers m (suc k) n (inr h) = let r = in_numbers (m + 1) k n h in (omega (arith, r.0), omega (arith, r.1))
 
-from_between : (m k n : ℕ) → m ≤ n → n < m + k → IsIn n (numbers m k)
+pub from_between : (m k n : ℕ) → m ≤ n → n < m + k → IsIn n (numbers m k)
 from_between m zero n low high = absurd (omega (arith, low, high))
 from_between m (suc k) n low high = ⊎_elim (λ above. inr (from_between (m + 1) k n (omega (arith, above)) (omega (arith, high)))) (λ least. inl (omega (arith, low, least))) (cases_lt m n)
 

@@ -6,3 +6,4 @@ pub mod Gathered
 pub mod Calls
 pub mod Amounts
 pub mod Swept
+pub mod Exact

@@ -90,7 +90,7 @@ none_shared k t v none = record {
 }
 
 -- a vertex with another tree
-abbrev with_tree : VertexKey → ℕ → VertexKey × ℕ
+abbrev pub with_tree : VertexKey → ℕ → VertexKey × ℕ
 with_tree v s = (v, s)
 
 pub no_pairs : (k : Cuts) (t : ℕ) → Counts (IsPairOf k t []) 0

@@ -3,3 +3,4 @@ pub mod Sent
 pub mod Shows
 pub mod Shown
 pub mod Sweeps
+pub mod Laws

@@ -3,6 +3,7 @@
 #![tactic(auto)]
 
 mod counts;
+pub mod laws;
 mod rows;
 mod sent;
 mod show;

@@ -1,0 +1,12 @@
+//! Laws of what trees show, each for all keys and grids.
+ghost use Rattle.showing_sweep.specs.Laws.{AmountsAreOne, TrafficIsExact};
+
+/// The numbers of a tree are one.
+pub fn amounts_are_one()
+    ensures { AmountsAreOne }
+{}
+
+/// In a grid as large as the engine serves, traffic tells each number as it is.
+pub fn traffic_is_exact()
+    ensures { TrafficIsExact }
+{}
