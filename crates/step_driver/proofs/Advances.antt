@@ -39,8 +39,8 @@ module _ {S : Type 0} (kernel : Kernel) (adapts : Bool) (g : Spacetree) (f : Sta
   stopped stores notes fault fails = record { live = refl; fails = fails }
 
 -- trees as they start are at the grid and the field
-pub starts_at : (parts : ℕ) (k : Cuts) (g : Spacetree) (f : States) (stores : List TreeLists) (notes : List Note) (cells : ℕ) → IsCutGrid k g → IsFieldOn parts g f → AreStarted k g f stores notes → cells ≡ cells_of g → cells_of g ≤ 200000 → AreAt parts k stores notes cells g f
-starts_at parts k g f stores notes cells fits field h counted room = record { fits = fits; field = field; dir = Backward; stand = h.stand; tales = h.tales; counted = counted; room = room }
+pub starts_at : (parts : ℕ) (k : Cuts) (g : Spacetree) (f : States) (stores : List TreeLists) (notes : List Note) (cells : ℕ) → k.trees ≤ 64 → IsCutGrid k g → IsFieldOn parts g f → AreStarted k g f stores notes → cells ≡ cells_of g → cells_of g ≤ 200000 → AreAt parts k stores notes cells g f
+starts_at parts k g f stores notes cells few fits field h counted room = record { few = few; fits = fits; field = field; dir = Backward; stand = h.stand; tales = h.tales; counted = counted; room = room }
 
 -- a world that was shown
 pub world_shown : {S : Type 0} (parts : ℕ) (g : Spacetree) (f : States) (w : Seen S) (stores : List TreeLists) (notes : List Note) (shown : Shown) → IsAt parts w g f w.step → ShowTrees parts (cuts_of w.keys) g f w.step w.cells stores w.notes notes shown →

@@ -1,8 +1,9 @@
 -- Trees that were shown are where they were, and their rows are the field's.
-use Rattle.std.proofs.Common.{◌≡◌, ℕ, List, Option, Some, None, unwrap_or, refl, ap, sym, subst, ◌∙◌}
-use Rattle.std.specs.Prelude.{IsSome, pos}
+use Rattle.std.proofs.Common.{◌≡◌, ℕ, ◌<◌, List, Option, Some, None, unwrap_or, refl, ap, sym, subst, ◌∙◌, arith}
+use Rattle.std.specs.Prelude.{IsSome, pos, length, slice_index_or}
 use Rattle.std.specs.FinMap as fin
 use Rattle.std.proofs.lemmas.Bool.{false≢true}
+use Rattle.std.proofs.lemmas.List.{same_lists}
 use Rattle.peano_keys.specs.declared.state.State.{State}
 use Rattle.peano_keys.specs.declared.state.State.TheVariants.{Single}
 use Rattle.peano_keys.specs.Cell.{IsCell}
@@ -19,10 +20,13 @@ use Rattle.sweep_visits.specs.Runs.{turned_round}
 use Rattle.tree_automaton.specs.TreeLists.{TreeLists}
 use Rattle.tree_automaton.specs.AtRest.{StandsFor}
 use Rattle.step_world.specs.Notes.{note_over}
+use Rattle.field_report.specs.declared.traffic.Traffic.{Traffic}
 use Rattle.showing_sweep.specs.Counts.{ListsAll}
+use Rattle.showing_sweep.specs.Laws.{amounts_in}
+use Rattle.showing_sweep.proofs.Exact.{traffic_is_exact, amounts_are_one}
 use Rattle.step_driver.specs.declared.showing.Shown.{Shown}
 use Rattle.step_driver.specs.Notes.{sizes_of, HaveTales}
-use Rattle.step_driver.specs.Showing.{IsRowOfFirst, AreRowsOf, AreShown}
+use Rattle.step_driver.specs.Showing.{IsRowOfFirst, AreRowsOf, AreShown, TellTraffic, OneTraffic}
 use Rattle.step_driver.specs.Stores.{store_of}
 use Rattle.step_driver.specs.Worlds.{AreAt}
 use Rattle.step_driver.proofs.Notes.{tales_grow}
@@ -57,6 +61,7 @@ module _ (parts : ℕ) (k : Cuts) (g : Spacetree) (f : States) (step cells : ℕ
 
   pub still_at : AreAt parts k after new cells g f
   still_at = record {
+    few = at.few;
     fits = at.fits;
     field = at.field;
     dir = turned_round at.dir;
@@ -70,3 +75,38 @@ module _ (parts : ℕ) (k : Cuts) (g : Spacetree) (f : States) (step cells : ℕ
     counted = at.counted;
     room = at.room;
   }
+
+  -- and what they tell is as it is
+  pub told : TellTraffic k g shown.traffic.items
+  told = record {
+    count = h.traffic.count;
+    each = λ t d below.
+        let traffic = h.traffic.each t d below in
+        record {
+          tree = ap (λ (x : Traffic). x.tree) traffic.told;
+          amounts = traffic_is_exact k g t (slice_index_or shown.traffic.items t d) at.fits.dim at.few at.room traffic;
+        };
+  }
+
+-- two tellings of the traffic of all trees are one
+pub one_traffic : OneTraffic
+one_traffic k g first second a b = same_items first second (a.count ∙ sym b.count) (λ t d below.
+    let low : t < k.trees = (let count = a.count in omega (arith, below, count)) in
+    let x = a.each t d low in
+    let y = b.each t d low in
+    same_traffic (slice_index_or first t d) (slice_index_or second t d) (x.tree ∙ sym y.tree) (amounts_are_one k g t (amounts_in (slice_index_or first t d)) (amounts_in (slice_index_or second t d)) x.amounts y.amounts))
+  where
+    same_traffic : (x y : Traffic) → x.tree ≡ y.tree → amounts_in x ≡ amounts_in y → x ≡ y
+    same_traffic x y trees amounts = λ i. record {
+      tree = trees i;
+      cells = (amounts i).cells;
+      stored = (amounts i).stored;
+      pushes = (amounts i).pushes;
+      hanging = (amounts i).hanging;
+      enclave = (amounts i).enclave;
+      skeleton = (amounts i).skeleton;
+      sent = (amounts i).sent;
+    }
+
+    same_items : (xs ys : List Traffic) → length xs ≡ length ys → ((t : ℕ) (d : Traffic) → t < length xs → slice_index_or xs t d ≡ slice_index_or ys t d) → xs ≡ ys
+    same_items xs ys size each = same_lists xs ys size each

@@ -124,6 +124,7 @@ module _ (kernel : Kernel) (k : Cuts) (g : Spacetree) (f : States) (step : ℕ) 
           field = field;
           served = record { step = is; room = room };
           at = record {
+            few = at.few;
             fits = fits;
             field = step_keeps_parts kernel.parts kernel.updated kernel.marked g f later field (deep_grid k g at.fits) at.field parts is;
             dir = dir;
@@ -185,6 +186,7 @@ module _ (kernel : Kernel) (k : Cuts) (g : Spacetree) (f : States) (step : ℕ) 
       field = field;
       served = record { step = is; room = room };
       at = record {
+        few = at.few;
         fits = fits;
         field = step_keeps_parts kernel.parts kernel.updated kernel.marked g f later field (deep_grid k g at.fits) at.field parts is;
         dir = turned_round dir;

@@ -18,7 +18,8 @@ use Rattle.step_world.specs.Notes.{note_over, by_trees}
 use Rattle.step_sweeps.specs.Sweeps.{StandsOn}
 use Rattle.showing_sweep.specs.declared.shown.Shown.{Shown as ShownTree}
 use Rattle.showing_sweep.specs.Counts.{ListsAll}
-use Rattle.showing_sweep.specs.Shown.{IsRowOf, IsTraffic}
+use Rattle.showing_sweep.specs.Shown.{IsRowOf, IsTraffic, AreAmounts}
+use Rattle.showing_sweep.specs.Laws.{amounts_in}
 use Rattle.showing_sweep.specs.Sweeps.{IsShownTree}
 use Rattle.step_driver.specs.declared.showing.Shown.{Shown}
 use Rattle.step_driver.specs.Notes.{sizes_of, AddsFirst}
@@ -57,11 +58,25 @@ pub record AreShown (k : Cuts) (parts : ℕ) (dir : Direction) (g : Spacetree) (
 abbrev pub AreRowsOf : States → List Row → Type 0
 AreRowsOf f rows = ListsAll (λ (row : Row). fin.get f row.key ≡ Some row.value) rows
 
+-- the traffic of a tree, each number as it is
+pub record TellsTraffic (k : Cuts) (g : Spacetree) (t : ℕ) (x : Traffic) : Type 0 where
+  pub tree : x.tree ≡ t
+  pub amounts : AreAmounts k g t (amounts_in x)
+
+-- of each tree, by number
+pub record TellTraffic (k : Cuts) (g : Spacetree) (list : List Traffic) : Type 0 where
+  pub count : length list ≡ k.trees
+  pub each : (t : ℕ) (d : Traffic) → t < k.trees → TellsTraffic k g t (slice_index_or list t d)
+
+-- there is one such list
+abbrev pub OneTraffic : Type 0
+OneTraffic = (k : Cuts) (g : Spacetree) (first second : List Traffic) → TellTraffic k g first → TellTraffic k g second → first ≡ second
+
 -- All trees were shown, which are at a grid and a field: the rows of the field in key order, and the traffic of each tree. They are still there.
 pub record ShowTrees (parts : ℕ) (k : Cuts) (g : Spacetree) (f : States) (step cells : ℕ) (stores : List TreeLists) (old new : List Note) (shown : Shown) : Type 0 where
   pub step_is : shown.step ≡ step
   pub rows : shown.rows.items ≡ rows_of f
-  pub traffic : AreTraffic k g k.trees shown.traffic.items
+  pub traffic : TellTraffic k g shown.traffic.items
   pub at : AreAt parts k stores new cells g f
   pub noted : new ≡ old ++ by_trees k.trees (note_over (sizes_of k) step kind.Show g)
 
@@ -69,7 +84,7 @@ pub record ShowTrees (parts : ℕ) (k : Cuts) (g : Spacetree) (f : States) (step
 pub record IsShown {S : Type 0} (parts : ℕ) (g : Spacetree) (f : States) (before after : Seen S) (shown : Shown) : Type 0 where
   pub step_is : shown.step ≡ before.step
   pub rows : shown.rows.items ≡ rows_of f
-  pub traffic : AreTraffic (cuts_of before.keys) g (cuts_of before.keys).trees shown.traffic.items
+  pub traffic : TellTraffic (cuts_of before.keys) g shown.traffic.items
   pub at : IsAt parts after g f before.step
   pub noted : after.notes ≡ before.notes ++ by_trees (cuts_of before.keys).trees (note_over (sizes_of (cuts_of before.keys)) before.step kind.Show g)
 

@@ -24,9 +24,10 @@ pub record Seen (S : Type 0) : Type 0 where
   pub notes : List Note
   pub live : Bool
 
--- The trees of some cuts are at a grid and a field whose states have so many values: the store of each tree stands for them, in what lies in it and in what
+-- The trees of some cuts, at most 64, are at a grid and a field whose states have so many values: the store of each tree stands for them, in what lies in it and in what
 -- each slot says, and all are read in one direction; the tale of each is that of its tree's notes; and the grid has so many cells, at most 200,000.
 pub record AreAt (parts : ℕ) (k : Cuts) (stores : List TreeLists) (notes : List Note) (cells : ℕ) (g : Spacetree) (f : States) : Type 0 where
+  pub few : k.trees ≤ 64
   pub fits : IsCutGrid k g
   pub field : IsFieldOn parts g f
   pub dir : Direction

@@ -1,5 +1,6 @@
 //! Laws of worlds.
 ghost use Rattle.step_driver.specs.Worlds.{WorldIsAtOne, WorldStands};
+ghost use Rattle.step_driver.specs.Showing.{OneTraffic};
 
 use solver_api::Solver;
 
@@ -11,4 +12,9 @@ pub fn world_is_at_one<S: Solver>()
 /// The copies of a world's trees stand for the grid and the field that it is at.
 pub fn world_stands<S: Solver>()
     ensures { WorldStands S }
+{}
+
+/// The traffic of all trees is one list.
+pub fn one_traffic()
+    ensures { OneTraffic }
 {}

@@ -3,7 +3,7 @@ use Rattle.curve_cuts.specs.Keys.{cuts_of}
 use Rattle.step_driver.specs.Showing.{AreRowsOf}
 use Rattle.step_driver.proofs.Advances.{written_back}
 use Rattle.step_driver.proofs.Began.{stand_on, on_err}
-use Rattle.step_driver.proofs.Rests.{all_rows, still_at}
+use Rattle.step_driver.proofs.Rests.{all_rows, still_at, told}
 use Rattle.step_driver.proofs.showing.show_trees.Goals as goal
 
 pub show_all-requires : goal.show_all-requires
@@ -26,7 +26,7 @@ returns-clause-shown c = λ parts cells g f at.
     record {
       step_is = c.in_ok-shown.ensures.step;
       rows = sym whole ∙ sorted;
-      traffic = shown.traffic;
+      traffic = told parts k g f c.args.step cells c.args.stores.now c.show_all.new.stores c.args.notes.now.items c.show_all.new.notes.items c.in_ok-shown.shown c.tale_of_notes_grows.ensures at shown;
       at = still_at parts k g f c.args.step cells c.args.stores.now c.show_all.new.stores c.args.notes.now.items c.show_all.new.notes.items c.in_ok-shown.shown c.tale_of_notes_grows.ensures at shown;
       noted = shown.noted;
     }

@@ -10,6 +10,6 @@ invariant_of-result g c = (
     c.args.grid.now,
     c.args.field.now,
     starts_at (g.S.Solver.parts_of c.args.solver) (cuts_of c.in_ok-keys.keys) c.args.grid.now c.args.field.now c.in_ok-forest.forest.stores.items c.in_ok-forest.forest.notes.items c.cell_count.result
-        c.in_ok-keys.ensures.fits c.requires.field c.in_ok-forest.ensures c.cell_count.ensures.value (let value = c.cell_count.ensures.value in let limit = c.cell_count.ensures.limit in omega (arith, value, limit)),
+        (let size = c.in_ok-keys.ensures.first.2.trees in let most = c.requires.most in omega (arith, size, most)) c.in_ok-keys.ensures.fits c.requires.field c.in_ok-forest.ensures c.cell_count.ensures.value (let value = c.cell_count.ensures.value in let limit = c.cell_count.ensures.limit in omega (arith, value, limit)),
   ),
 )
