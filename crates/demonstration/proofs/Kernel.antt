@@ -1,8 +1,8 @@
 -- A leaf's new value lies where it and what it sees do.
-use Rattle.std.proofs.Common.{◌≡◌, ℕ, ◌+◌, ◌*◌, ◌^◌, ◌<◌, ◌≤◌, true, arith, refl, lit<, ap, ◌∙◌, cond, Some, None, slice_index_or}
+use Rattle.std.proofs.Common.{◌≡◌, ℕ, ◌*◌, ◌^◌, ◌<◌, ◌≤◌, arith, lit<, ap, cond, Some, None, slice_index_or}
 use Rattle.std.proofs.Math.Nat.{pow-le-pow_right}
 use Rattle.std.proofs.lemmas.Int.{ints}
-use Rattle.std.specs.Prelude.{ℤ, pos, negsuc, ◌≤ℤ◌, ◌+ℤ◌, ◌*ℤ◌, All}
+use Rattle.std.specs.Prelude.{ℤ, pos, negsuc, ◌≤ℤ◌, ◌+ℤ◌, ◌*ℤ◌}
 use Rattle.std.specs.Int.{w64, int_div_euclid}
 use Rattle.std.specs.Int.RustNames.{FitsSigned}
 use borrow.Author.Tests.{lt-ltb}
@@ -11,13 +11,10 @@ use Rattle.peano_keys.specs.declared.state.State.{State}
 use Rattle.peano_keys.specs.declared.state.State.TheVariants.{Single}
 use Rattle.peano_keys.specs.declared.side.Side.{Side}
 use Rattle.peano_keys.specs.declared.side.Side.TheVariants.{Edge, Same, Coarse}
-use Rattle.peano_keys.specs.declared.side.Sides.{Sides}
 use Rattle.peano_keys.specs.State.{value_at}
 use Rattle.solver_api.specs.Marks.{faces_of}
-use Rattle.solver_api.specs.Parts.{side_on}
 use Rattle.volume_solver.specs.declared.edge.EdgeRule.TheVariants.{Copy}
 use Rattle.volume_solver.specs.Kernel.{across, fitted, single_of}
-use Rattle.demonstration.specs.Demo.{demo_solver}
 use Rattle.demonstration.specs.Laws.{IsWithin, SeesWithin, StaysBetween}
 use Rattle.demonstration.proofs.Floors.{rises_to, moves_at_most, moves_at_least}
 

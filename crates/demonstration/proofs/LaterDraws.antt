@@ -1,5 +1,5 @@
 -- Draws from a later number of the generator on.
-use Rattle.std.proofs.Common.{◌≡◌, ℕ, zero, suc, ◌+◌, ◌*◌, ◌<◌, ap, ◌∙◌, arith, map}
+use Rattle.std.proofs.Common.{◌≡◌, ℕ, zero, suc, ◌+◌, ◌*◌, ◌<◌, ap, ◌∙◌, arith}
 use Rattle.std.proofs.lemmas.Nat.{mod_below}
 use Rattle.demonstration.specs.Draws.{next_number, number_after, drawn, draw}
 use Rattle.demonstration.specs.Demo.{fill_by, zone_by, fill_at, zone_at}

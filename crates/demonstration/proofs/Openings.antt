@@ -1,9 +1,9 @@
 -- The opening grid of a demonstration: how many cells it has, and from where to where its values lie.
-use Rattle.std.proofs.Common.{◌≡◌, ℕ, zero, suc, ◌+◌, ◌*◌, ◌^◌, ◌<◌, ◌≤◌, min, max, Bool, true, false, cond, List, ◌∷◌, ◌++◌, length, length-append, get_or, map, filter, refl, ap, sym, ◌∙◌, subst, arith, inl, inr, Some, unwrap_or}
+use Rattle.std.proofs.Common.{◌≡◌, ℕ, zero, suc, ◌+◌, ◌*◌, ◌<◌, ◌≤◌, Bool, true, false, cond, List, ◌∷◌, ◌++◌, length, length-append, map, filter, sym, ◌∙◌, subst, arith, inl, inr, unwrap_or}
 use Rattle.std.proofs.lemmas.Bool.{cases_lt, cases_eq}
 use Rattle.std.proofs.lemmas.Int.{ints}
 use Rattle.std.proofs.lemmas.List.FromFn.{length-map-range_with_len, get_or-map-range_with_len}
-use Rattle.std.specs.Prelude.{ℤ, pos, negsuc, ◌≤ℤ◌, ◌-ℤ◌}
+use Rattle.std.specs.Prelude.{pos, negsuc, ◌-ℤ◌}
 use Rattle.std.specs.FinSet as set
 use Rattle.std.specs.List.{range_with_len}
 use Rattle.peano_keys.specs.declared.dim.Dim.{Dim}
@@ -12,11 +12,11 @@ use Rattle.peano_keys.specs.declared.cell.CellKey.{CellKey}
 use Rattle.peano_keys.specs.declared.state.State.{State}
 use Rattle.peano_keys.specs.declared.state.State.TheVariants.{Single}
 use Rattle.peano_keys.specs.Cell.{IsCell, at}
-use Rattle.peano_keys.specs.Grid.{Spacetree, IsGrid, is_refined}
+use Rattle.peano_keys.specs.Grid.{Spacetree, IsGrid}
 use Rattle.spacetree.specs.declared.shape.Fill.{Fill}
 use Rattle.spacetree.specs.declared.shape.Zone.{Zone}
 use Rattle.spacetree.specs.Leaves.{is_among}
-use Rattle.spacetree.specs.Opening.{Opens, OpensRefined, ZoneRefines, Overlaps, last_value, lies_in, opening_state}
+use Rattle.spacetree.specs.Opening.{Opens, OpensRefined, ZoneRefines, Overlaps, last_value, lies_in}
 use Rattle.spacetree.proofs.Openings.{parent_opens, opens_above}
 use Rattle.demonstration.specs.Draws.{draw}
 use Rattle.demonstration.specs.Demo.{demo, fill_at, zone_at, zone_by}

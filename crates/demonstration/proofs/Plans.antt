@@ -1,5 +1,5 @@
 -- The plan of a demonstration is within its ranges.
-use Rattle.std.proofs.Common.{◌≡◌, ℕ, ◌+◌, ◌*◌, ◌<◌, ◌≤◌, arith, refl, sym, subst, map, length, get_or, List, None}
+use Rattle.std.proofs.Common.{◌≡◌, ℕ, ◌+◌, ◌*◌, ◌<◌, arith, refl, sym, subst, map, List, None}
 use Rattle.std.proofs.lemmas.List.FromFn.{length-map-range_with_len, get_or-map-range_with_len}
 use Rattle.std.specs.Prelude.{All}
 use Rattle.std.specs.List.{range_with_len}
@@ -9,7 +9,6 @@ use Rattle.spacetree.specs.declared.shape.Zone.{Zone}
 use Rattle.volume_solver.specs.declared.any.AnySolver.{AnySolver}
 use Rattle.spacetree.specs.Opening.{IsFill}
 use Rattle.spacetree.specs.Build.{IsZone, IsShape}
-use Rattle.grid_file.specs.Valid.{IsPlan}
 use Rattle.demonstration.specs.Draws.{draw}
 use Rattle.demonstration.specs.Demo.{fill_by, zone_by, fill_at, zone_at, demo, demo_solver}
 use Rattle.demonstration.specs.Laws.{IsValid}

@@ -1,5 +1,5 @@
 -- Through all steps of a demonstration its values stay within their bounds, and no step is refused.
-use Rattle.std.proofs.Common.{◌≡◌, ℕ, zero, suc, ◌+◌, ◌-◌, ◌<◌, ◌≤◌, Bool, true, false, cond, List, [], ◌∷◌, length, refl, ap, sym, ◌∙◌, subst, arith, inl, inr, lit<, Option, Some, None, IsNone, unwrap_or}
+use Rattle.std.proofs.Common.{◌≡◌, ℕ, zero, suc, ◌≤◌, Bool, true, false, cond, [], ◌∷◌, length, sym, ◌∙◌, subst, arith, inl, inr, lit<, Option, Some, None, IsNone, unwrap_or}
 use Rattle.std.proofs.lemmas.Bool.{cases_lt, false≢true}
 use Rattle.std.proofs.lemmas.Int.{ints, by_lt_z}
 use Rattle.std.specs.Prelude.{ℤ, pos, negsuc, ◌≤ℤ◌, All}
@@ -16,17 +16,16 @@ use Rattle.peano_keys.specs.declared.side.Side.{Side}
 use Rattle.peano_keys.specs.declared.side.Side.TheVariants.{Same, Coarse}
 use Rattle.peano_keys.specs.Cell.{IsCell, parent_of, centre_child}
 use Rattle.peano_keys.specs.Grid.{Spacetree, IsGrid, is_refined, has_cell}
-use Rattle.peano_keys.specs.Field.{States, state_at, centre_state, value_of, covering_state, side_at, side_of, sides_of, face_on}
+use Rattle.peano_keys.specs.Field.{States, state_at, centre_state, value_of, covering_state, side_at, sides_of, face_on}
 use Rattle.peano_keys.specs.Cell.{neighbour_of}
 use Rattle.peano_keys.specs.Next.{IsNextGrid}
-use Rattle.solver_api.specs.Marks.{faces_of}
-use Rattle.solver_api.specs.Step.{IsLeafOf, Overflows, marks_of, new_state, source_of}
+use Rattle.solver_api.specs.Step.{IsLeafOf, marks_of, new_state, source_of}
 use Rattle.volume_solver.specs.Any.{updated_by, marked_by, refined_in}
 use Rattle.spacetree.specs.Counts.{cells_of}
-use Rattle.spacetree.specs.Evaluation.{Evaluates, OverflowsIn, CrowdsIn, IsServedStep}
+use Rattle.spacetree.specs.Evaluation.{OverflowsIn, CrowdsIn, IsServedStep}
 use Rattle.spacetree.proofs.Leaves.{leaf_there, parent_refined}
 use Rattle.spacetree.proofs.NextGrids.{next_is_grid, source_is_leaf}
-use Rattle.demonstration.specs.Demo.{demo, demo_solver}
+use Rattle.demonstration.specs.Demo.{demo_solver}
 use Rattle.demonstration.specs.Laws.{IsWithin, SeesWithin, HasWithin, Begins, Leads, StaysThroughout, NeverRefused}
 use Rattle.demonstration.proofs.Kernel.{stays_between}
 use Rattle.demonstration.proofs.Covers.{above, length_above_5, among_above, len_at_most, cells_at_most}

@@ -17,7 +17,6 @@ use Rattle.volume_solver.specs.Any.{updated_by, marked_by}
 use Rattle.spacetree.specs.Counts.{cells_of}
 use Rattle.spacetree.specs.Opening.{Opens, OpensField}
 use Rattle.spacetree.specs.Evaluation.{Evaluates, NeverOverflows, NeverCrowds}
-use Rattle.grid_file.specs.declared.plan.Plan.{Plan}
 use Rattle.grid_file.specs.Valid.{IsPlan}
 use Rattle.demonstration.specs.Demo.{demo, demo_solver}
 

@@ -7,9 +7,10 @@ ghost use Rattle.demonstration.specs.Demo.{fill_by, zone_by};
 use peano_keys::State;
 use spacetree::{Fill, Zone};
 
-// The multiplier and the summand of the generator.
+// The multiplier of the generator.
 const FACTOR: u64 = 6_364_136_223_846_793_005;
 
+// Its summand.
 const SUMMAND: u64 = 1_442_695_040_888_963_407;
 
 // The generator's number that follows another one.

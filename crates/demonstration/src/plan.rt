@@ -11,9 +11,10 @@ use spacetree::{Listed, Shape};
 use std::alloc::{AllocError, Global};
 use volume_solver::{AnySolver, Diffuse, EdgeRule};
 
-// How many fills there are, and how many boxes to refine.
+// How many fills there are.
 const FILLS: u32 = 12;
 
+// How many boxes to refine.
 const ZONES: u32 = 8;
 
 // The solver of each demonstration: one step moves no value beyond those that its leaf sees.

@@ -3,6 +3,7 @@ use crate::demo_plan;
 use peano_keys::{Dim, State};
 use solver_api::Solver;
 use spacetree::{Fill, Zone};
+use std::process::Abort;
 use std::test::Fail;
 
 // A fill by its corner and its value.
@@ -122,30 +123,44 @@ const DEMONSTRATIONS: [Row; 4] = [
     ),
 ];
 
+// The fills are those of the rows.
+fn are_fills(rt: &impl Abort, fills: &[Fill], rows: &[FillRow; 12]) {
+    assert_eq!(rt; fills.len(), 12);
+    for (i, fill) in fills.iter().enumerate() {
+        let (x, y, value) = rows[i];
+        assert!(rt; x < 25 && y < 25);
+        let want = Fill {
+            level: 3,
+            from: [x, y, 0],
+            to: [x + 2, y + 2, 0],
+            value: State::Single(value),
+        };
+        assert_eq!(rt; *fill, want, "fill {i}");
+    }
+}
+
+// The boxes to refine are those of the rows.
+fn are_zones(rt: &impl Abort, zones: &[Zone], rows: &[(u32, u32); 8]) {
+    assert_eq!(rt; zones.len(), 8);
+    for (j, zone) in zones.iter().enumerate() {
+        let (x, y) = rows[j];
+        assert!(rt; x < 27 && y < 27);
+        let want = Zone {
+            level: 3,
+            from: [x, y, 0],
+            to: [x + 1, y + 1, 0],
+            until: 5,
+        };
+        assert_eq!(rt; *zone, want, "box {j}");
+    }
+}
+
 #[test]
 fn the_plans_of_some_numbers(rt: HostRuntime) -> Result<(), Fail> {
     for (n, fills, zones) in DEMONSTRATIONS {
         let plan = demo_plan(rt.alloc(), n)?;
-        assert_eq!(rt; plan.fills.as_slice().len(), 12, "fills of {n}");
-        for (fill, (x, y, value)) in plan.fills.as_slice().iter().zip(fills.iter()) {
-            let want = Fill {
-                level: 3,
-                from: [*x, *y, 0],
-                to: [*x + 2, *y + 2, 0],
-                value: State::Single(*value),
-            };
-            assert_eq!(rt; *fill, want, "of {n}");
-        }
-        assert_eq!(rt; plan.shape.zones.as_slice().len(), 8, "boxes of {n}");
-        for (zone, (x, y)) in plan.shape.zones.as_slice().iter().zip(zones.iter()) {
-            let want = Zone {
-                level: 3,
-                from: [*x, *y, 0],
-                to: [*x + 1, *y + 1, 0],
-                until: 5,
-            };
-            assert_eq!(rt; *zone, want, "of {n}");
-        }
+        are_fills(&rt, plan.fills.as_slice(), &fills);
+        are_zones(&rt, plan.shape.zones.as_slice(), &zones);
     }
     Ok(())
 }

@@ -1,12 +1,9 @@
-use Rattle.std.proofs.Common.{◌≡◌, ◌+◌, ◌*◌, ℕ, ◌++◌, [], ◌∷◌, List, map, refl, sym, ap, ◌∙◌, arith, subst}
+use Rattle.std.proofs.Common.{◌≡◌, ℕ, ◌++◌, [], ◌∷◌, map, refl, sym, ap, ◌∙◌, arith, subst}
 use Rattle.std.proofs.lemmas.List.FromFn.{map-range_with_len_more}
 use Rattle.std.specs.List.{range_with_len}
-use Rattle.spacetree.specs.declared.shape.Fill.{Fill}
-use Rattle.spacetree.specs.declared.shape.Zone.{Zone}
-use Rattle.grid_file.specs.declared.plan.Plan.{Plan}
 use Rattle.grid_file.specs.Valid.{IsPlan}
 use Rattle.demonstration.specs.Draws.{number_after}
-use Rattle.demonstration.specs.Demo.{fill_at, zone_at, demo}
+use Rattle.demonstration.specs.Demo.{fill_at, zone_at}
 use Rattle.demonstration.proofs.LaterDraws.{next_fill, past_fill, next_zone, past_zone}
 use Rattle.demonstration.proofs.Plans.{is_valid, same_plan}
 use Rattle.demonstration.proofs.plan.demo_plan.Goals as goal

@@ -1,4 +1,4 @@
-use Rattle.std.proofs.Common.{◌≡◌, ℕ, ap, ◌∙◌}
+use Rattle.std.proofs.Common.{ℕ, ap, ◌∙◌}
 use Rattle.demonstration.specs.Draws.{next_number, number_after, drawn}
 use Rattle.demonstration.specs.Demo.{fill_by}
 use Rattle.demonstration.proofs.draws.Draws.fill.Goals as goal

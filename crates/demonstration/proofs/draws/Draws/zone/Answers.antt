@@ -1,4 +1,4 @@
-use Rattle.std.proofs.Common.{◌≡◌, ap, ◌∙◌}
+use Rattle.std.proofs.Common.{ap, ◌∙◌}
 use Rattle.demonstration.specs.Draws.{next_number, number_after, drawn}
 use Rattle.demonstration.specs.Demo.{zone_by}
 use Rattle.demonstration.proofs.draws.Draws.zone.Goals as goal
