@@ -20,7 +20,7 @@ use Rattle.spacetree.specs.Opening.{Opens, OpensRefined, ZoneRefines, Overlaps, 
 use Rattle.spacetree.proofs.Openings.{parent_opens, opens_above}
 use Rattle.demonstration.specs.Draws.{draw}
 use Rattle.demonstration.specs.Demo.{demo, fill_at, zone_at, zone_by}
-use Rattle.demonstration.specs.Laws.{OpensSmall, OpensWithin, IsWithin}
+use Rattle.demonstration.specs.Laws.{OpensSmall, NeverTooLarge, OpensWithin, IsWithin}
 use Rattle.demonstration.proofs.LaterDraws.{draw_below}
 use Rattle.demonstration.proofs.Plans.{shape_fits}
 use Rattle.demonstration.proofs.Covers.{block, length_block, above, length_above_3, among_above, covered, among_first, among_second, len_at_most, cells_at_most}
@@ -103,6 +103,11 @@ pub opens_small : OpensSmall
 opens_small n t opens =
     let few : set.len t.refined ≤ length (families n 8) = len_at_most t.refined (families n 8) (λ c h. opened_in_families n c ((opens.refined c).0 h)) in
     cells_at_most t 171 opens.dim (omega (arith, few, length_families n 8))
+
+pub never_too_large : NeverTooLarge
+never_too_large n large =
+    let few : set.len large.refined ≤ length (families n 8) = len_at_most large.refined (families n 8) (λ c h. opened_in_families n c (large.opened c h)) in
+    absurd (omega (arith, few, length_families n 8, large.many))
 
 -- the opening grid is a grid of depth 5
 pub opening_grid : (n : ℕ) (t : Spacetree) → Opens (demo n).shape t → IsGrid 5 t

@@ -20,6 +20,13 @@ fill_by x y v = record { level = 3; from = triple x y 0; to = triple (x + 2) (y 
 abbrev pub zone_by : ℕ → ℕ → Zone
 zone_by x y = record { level = 3; from = triple x y 0; to = triple (x + 1) (y + 1) 0; until = 5 }
 
+-- the fill and the box that the next draws from a number of the generator on make
+abbrev pub fill_from : ℕ → Fill
+fill_from s = fill_by (draw s 0 25) (draw s 1 25) (draw s 2 2001)
+
+abbrev pub zone_from : ℕ → Zone
+zone_from s = zone_by (draw s 0 27) (draw s 1 27)
+
 -- fill number `i`: three draws each, from the first draw on
 abbrev pub fill_at : ℕ → ℕ → Fill
 fill_at n i = fill_by (draw n (3 * i) 25) (draw n (3 * i + 1) 25) (draw n (3 * i + 2) 2001)

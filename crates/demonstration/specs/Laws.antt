@@ -15,6 +15,7 @@ use Rattle.solver_api.specs.Marks.{faces_of}
 use Rattle.solver_api.specs.Step.{IsLeafOf}
 use Rattle.volume_solver.specs.Any.{updated_by, marked_by}
 use Rattle.spacetree.specs.Counts.{cells_of}
+use Rattle.spacetree.specs.Build.{IsTooLarge}
 use Rattle.spacetree.specs.Opening.{Opens, OpensField}
 use Rattle.spacetree.specs.Evaluation.{Evaluates, NeverOverflows, NeverCrowds}
 use Rattle.grid_file.specs.Valid.{IsPlan}
@@ -27,6 +28,10 @@ IsValid = (n : ℕ) → IsPlan (demo n)
 -- the opening grid has at most 1,540 cells
 abbrev pub OpensSmall : Type 0
 OpensSmall = (n : ℕ) (t : Spacetree) → Opens (demo n).shape t → cells_of t ≤ 1540
+
+-- so it is never too large to be built
+abbrev pub NeverTooLarge : Type 0
+NeverTooLarge = (n : ℕ) → ¬ IsTooLarge (demo n).shape
 
 -- the first value of a state lies from `low` to `high`
 pub record IsWithin (low high : ℤ) (s : State) : Type 0 where

@@ -1,5 +1,5 @@
 //! What holds of each demonstration: its plan is valid, its opening grid small, and no step of it is refused.
-ghost use Rattle.demonstration.specs.Laws.{IsValid, OpensSmall, StaysBetween, OpensWithin, StaysThroughout, NeverRefused};
+ghost use Rattle.demonstration.specs.Laws.{IsValid, OpensSmall, NeverTooLarge, StaysBetween, OpensWithin, StaysThroughout, NeverRefused};
 
 /// The plan of a demonstration is within the ranges of a file's plan.
 pub fn is_valid()
@@ -9,6 +9,11 @@ pub fn is_valid()
 /// The opening grid of a demonstration has at most 1,540 cells.
 pub fn opens_small()
     ensures { OpensSmall }
+{}
+
+/// The opening grid of a demonstration is never too large to be built.
+pub fn never_too_large()
+    ensures { NeverTooLarge }
 {}
 
 /// In each step a leaf has a new value, which lies between the least and the greatest that the leaf sees.
