@@ -1,5 +1,5 @@
 -- The answer of a run, from what reading and reporting ensure.
-use Rattle.std.proofs.Common.{◌≡◌, ℕ, ◌+◌, ◌≤◌, ◌++◌, Bool, true, List, [], length, Option, Some, None, Result, Ok, Err, IfOk, IfErr, Vec, Global, subst, sym, ◌∙◌, append-nil, arith}
+use Rattle.std.proofs.Common.{◌≡◌, ℕ, ◌+◌, ◌≤◌, Bool, true, List, [], length, Option, Some, None, Result, Ok, Err, IfOk, IfErr, Vec, Global, subst, sym, ◌∙◌, append-nil, arith}
 use Rattle.std.proofs.lemmas.Option.{none-some}
 use Rattle.std.specs.Io.KnownBytes.{Consumes}
 use Rattle.peano_io.specs.Reading.{ReadsToEnd}

@@ -1,5 +1,5 @@
 -- What a run does to its source and its sinks, by the answer that it ends with.
-use Rattle.std.specs.Prelude.{◌≡◌, ℕ, ◌+◌, ◌<◌, ◌≤◌, ◌∷◌, Bool, true, List, [], length, take, ⊤, Option, Some, None, String, Vec, Result, Ok, Err}
+use Rattle.std.specs.Prelude.{◌≡◌, ℕ, ◌+◌, ◌<◌, ◌≤◌, Bool, true, List, [], length, take, ⊤, Option, Some, None, Vec, Result, Ok, Err}
 use Rattle.std.specs.declared.alloc.Global.{Global}
 use Rattle.std.specs.Io.KnownBytes.{Consumes, Appends}
 use Rattle.peano_keys.specs.declared.dim.Dim.{Dim}
@@ -9,11 +9,6 @@ use Rattle.peano_run.specs.declared.answer.Answer.TheVariants.{Done, Usage, Read
 use Rattle.peano_run.specs.declared.ending.Ending.{Ending}
 use Rattle.peano_run.specs.Texts.{text_of}
 use Rattle.peano_run.specs.Report.{IsReport, IsRefused, OfPlan, longest_input}
-
--- the words are refused: no option is built yet, so every word is
-abbrev pub AreRefused : List (String Global) → Type 0
-AreRefused [] = ⊥
-AreRefused (word ∷ words) = Unit {0}
 
 -- the source lost a prefix of so many bytes
 pub record LosesOf (P : ℕ → Type 0) (before after : Option (List ℕ)) : Type 0 where
@@ -35,11 +30,15 @@ ReadsBy TooLong before after ended = LosesOf (λ n. n ≡ longest_input + 1) bef
 ReadsBy NoMemory before after ended = LosesOf (λ n. n ≤ longest_input + 1) before after
 ReadsBy _ before after ended = IsReadWhole before after ended
 
--- what the sink took: the whole report of the input, or its first bytes where a write failed, fewer than all
+-- what the sink took: the whole text that is due, or its first bytes where a write failed, fewer than all
+abbrev pub WritesText : (List ℕ → Type 0) → Answer → Option (List ℕ) → Option (List ℕ) → Type 0
+WritesText IsDue Done before after = (text : List ℕ) × IsDue text × Appends before after text
+WritesText IsDue (WriteFault written) before after = (text : List ℕ) × IsDue text × Appends before after (take written text) × (written < length text)
+WritesText IsDue _ before after = ⊤
+
+-- the report of the input is
 abbrev pub WritesOf : Answer → List ℕ → Option (List ℕ) → Option (List ℕ) → Type 0
-WritesOf Done bytes before after = (text : List ℕ) × IsReport bytes text × Appends before after text
-WritesOf (WriteFault written) bytes before after = (text : List ℕ) × IsReport bytes text × Appends before after (take written text) × (written < length text)
-WritesOf _ bytes before after = ⊤
+WritesOf answer bytes = WritesText (IsReport bytes) answer
 
 -- so where the source tells what it had
 abbrev pub WritesBy : Answer → Option (List ℕ) → Option (List ℕ) → Option (List ℕ) → Type 0

@@ -1,8 +1,10 @@
-//! The top call: reads a file, takes its steps and writes the report.
+//! The top call: reads a file, takes its steps and writes the report, or shows a demonstration.
 #![tactic(auto)]
 
 mod answer;
+mod asked;
 mod course;
+mod demo;
 mod ending;
 pub mod laws;
 mod report;

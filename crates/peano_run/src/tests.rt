@@ -147,7 +147,18 @@ fn refusals_name_their_cause(rt: HostRuntime) -> Result<(), Fail> {
 #[test]
 fn words_are_refused_before_the_input_is_read(rt: HostRuntime) -> Result<(), Fail> {
     let usage = "usage: peano [--trees N] [--workers N] [--show fields|traffic|all] [--demo N]\n";
-    let tables: [&[&str]; 3] = [&["--help"], &[""], &["--trees", "2"]];
+    let tables: [&[&str]; 10] = [
+        &["--help"],
+        &[""],
+        &["--"],
+        &["--trees", "0"],
+        &["--trees", "2"],
+        &["--workers=1"],
+        &["--show", "traffic"],
+        &["--show=all"],
+        &["--demo", "1", "--show", "fields"],
+        &["--demo", "10000000000000000000"],
+    ];
     for words in tables {
         let left = run_with(rt.alloc(), words, PULSE, NOWHERE)?;
         assert_eq!(rt; left.err.bytes(), usage.as_bytes());
@@ -155,6 +166,57 @@ fn words_are_refused_before_the_input_is_read(rt: HostRuntime) -> Result<(), Fai
         assert!(rt; left.out.bytes().is_empty());
         assert_eq!(rt; left.input.left(), PULSE.as_bytes());
     }
+    Ok(())
+}
+
+#[test]
+fn words_that_ask_for_the_report(rt: HostRuntime) -> Result<(), Fail> {
+    let tables: [&[&str]; 4] = [
+        &["--show", "fields"],
+        &["--show=fields", "--trees=1"],
+        &["--trees", "001"],
+        &["--workers", "0"],
+    ];
+    for words in tables {
+        let left = run_with(rt.alloc(), words, SINGLE_CELL, NOWHERE)?;
+        assert_eq!(rt; left.out.bytes(), "step 0 leaves 1\n0 0 0 7\n".as_bytes());
+        assert!(rt; left.outcome.answer == Answer::Done && left.err.bytes().is_empty());
+    }
+    Ok(())
+}
+
+#[test]
+fn a_demonstration_reads_nothing_and_writes_its_summary(rt: HostRuntime) -> Result<(), Fail> {
+    let table: [(&[&str], &str); 2] = [
+        (
+            &["--demo", "1"],
+            "demo 1\nsteps 20\ncells 6958\nleaves 6185\nlow -698\nhigh 800\nlevel 0 leaves 0\nlevel 1 leaves 0\nlevel 2 leaves 42\nlevel 3 leaves 231\nlevel 4 leaves 476\nlevel 5 leaves 5436\n",
+        ),
+        (
+            &["--workers=0", "--demo=9999999999999999999", "--trees", "1"],
+            "demo 9999999999999999999\nsteps 20\ncells 7714\nleaves 6857\nlow -957\nhigh 941\nlevel 0 leaves 0\nlevel 1 leaves 0\nlevel 2 leaves 41\nlevel 3 leaves 236\nlevel 4 leaves 433\nlevel 5 leaves 6147\n",
+        ),
+    ];
+    for (words, want) in table {
+        let left = run_with(rt.alloc(), words, PULSE, NOWHERE)?;
+        assert_eq!(rt; left.out.bytes(), want.as_bytes());
+        assert!(rt; left.outcome.answer == Answer::Done && left.outcome.status == 0);
+        assert!(rt; left.err.bytes().is_empty());
+        assert_eq!(rt; left.input.left(), PULSE.as_bytes());
+    }
+    Ok(())
+}
+
+#[test]
+fn a_write_of_a_summary_fails(rt: HostRuntime) -> Result<(), Fail> {
+    let failing = Failing {
+        out: Some(1),
+        ..NOWHERE
+    };
+    let left = run_with(rt.alloc(), &["--demo", "0"], "", failing)?;
+    assert_eq!(rt; left.outcome.status, 7);
+    assert_eq!(rt; left.err.bytes(), "write fault after 10 bytes\n".as_bytes());
+    assert_eq!(rt; left.out.bytes(), "demo 0\nste".as_bytes());
     Ok(())
 }
 

@@ -1,12 +1,17 @@
 //! The top call.
-ghost use Rattle.std.specs.Prelude.{◌≡◌, ◌≢◌, ◌↔◌, false};
+ghost use Rattle.std.specs.Prelude.{◌≡◌, ◌≢◌, ◌⊎◌, ℕ, Option, None, IsSome, false, map, string_bytes};
 ghost use Rattle.peano_run.specs.Texts.{status_of};
-ghost use Rattle.peano_run.specs.Run.{AreRefused, ReadsBy, WritesBy, WritesNothing, RefusalBy, ReadFaultRose, WriteFaultRose, Reports, NamesIn, Tells, TellsAnswer};
+ghost use Rattle.peano_run.specs.Asked.{Asks, AreRefused};
+ghost use Rattle.peano_run.specs.Run.{WritesNothing, ReadFaultRose, WriteFaultRose, Reports, NamesIn, Tells, TellsAnswer};
+ghost use Rattle.peano_run.specs.Served.{ReportsFile, Serves};
 
 use crate::answer::{Answer, Outcome};
+use crate::asked::asked;
+use crate::demo::demonstrated;
 use crate::ending::Ending;
 use crate::report::report;
 use crate::text::refusal_text;
+use command_line::WordsFault;
 use peano_io::{ReadAllFault, Sink, Source, read_all, write_whole};
 use std::alloc::Global;
 
@@ -27,13 +32,11 @@ fn report_of<S: Source>(alloc: Global, input: &mut S) -> Result<Vec<u8>, Ending>
 }
 
 // Reads the input, and writes its report.
-fn served<S: Source, K: Sink>(alloc: Global, input: &mut S, out: &mut K) -> Ending
+fn reported<S: Source, K: Sink>(alloc: Global, input: &mut S, out: &mut K) -> Ending
     requires { S.ended input.old ≡ false }
     ensures served { result.answer ≢ Answer.Usage }
-    ensures reading { ReadsBy result.answer (S.left input.old) (S.left input.new) (S.ended input.new) }
-    ensures output { WritesBy result.answer (S.left input.old) (K.taken out.old) (K.taken out.new) }
+    ensures reports { ReportsFile result.answer (S.left input.old) (S.left input.new) (S.ended input.new) (K.taken out.old) (K.taken out.new) }
     ensures nothing { WritesNothing result.answer out.old out.new }
-    ensures refusal { RefusalBy result.answer (S.left input.old) }
     ensures read_fault { ReadFaultRose result.answer (S.faults input.old) (S.faults input.new) }
     ensures write_fault { WriteFaultRose result.answer (K.faults out.old) (K.faults out.new) }
     ensures named { NamesIn result.dim result.answer (S.left input.old) }
@@ -50,6 +53,47 @@ fn served<S: Source, K: Sink>(alloc: Global, input: &mut S, out: &mut K) -> Endi
     }
 }
 
+// Does what is asked for: the demonstration of a number, or the report of the input.
+fn served<S: Source, K: Sink>(
+    alloc: Global,
+    asked: Option<u64>,
+    input: &mut S,
+    out: &mut K,
+) -> Ending
+    requires { S.ended input.old ≡ false }
+    ensures served { result.answer ≢ Answer.Usage }
+    ensures unread { IsSome asked → input.new ≡ input.old }
+    ensures serves { Serves asked result.answer (S.left input.old) (S.left input.new) (S.ended input.new) (K.taken out.old) (K.taken out.new) }
+    ensures nothing { WritesNothing result.answer out.old out.new }
+    ensures read_fault { ReadFaultRose result.answer (S.faults input.old) (S.faults input.new) }
+    ensures write_fault { WriteFaultRose result.answer (K.faults out.old) (K.faults out.new) }
+    ensures named { NamesIn result.dim result.answer (S.left input.old) }
+{
+    match asked {
+        Some(n) => demonstrated(alloc, n, out),
+        None => reported(alloc, input, out),
+    }
+}
+
+// Reads the words, and does what they ask for.
+fn ended<S: Source, K: Sink>(alloc: Global, words: &[String], input: &mut S, out: &mut K) -> Ending
+    requires { S.ended input.old ≡ false }
+    ensures usage { result.answer ≡ Answer.Usage → AreRefused (map string_bytes words.now) }
+    ensures refused { AreRefused (map string_bytes words.now) → (result.answer ≡ Answer.Usage) ⊎ (result.answer ≡ Answer.NoMemory) }
+    ensures unread { ¬ Asks (map string_bytes words.now) None → input.new ≡ input.old }
+    ensures serves { (asked : Option ℕ) → Asks (map string_bytes words.now) asked → Serves asked result.answer (S.left input.old) (S.left input.new) (S.ended input.new) (K.taken out.old) (K.taken out.new) }
+    ensures nothing { WritesNothing result.answer out.old out.new }
+    ensures read_fault { ReadFaultRose result.answer (S.faults input.old) (S.faults input.new) }
+    ensures write_fault { WriteFaultRose result.answer (K.faults out.old) (K.faults out.new) }
+    ensures named { NamesIn result.dim result.answer (S.left input.old) }
+{
+    match asked(alloc, words) {
+        Ok(asked) => served(alloc, asked, input, out),
+        Err(WordsFault::Usage) => Ending::of(Answer::Usage),
+        Err(WordsFault::NoMemory) => Ending::of(Answer::NoMemory),
+    }
+}
+
 // Writes a text as far as the sink takes it.
 fn tell<E: Sink>(err: &mut E, text: &[u8])
     ensures { Tells text.now (E.taken err.old) (E.taken err.new) (E.faults err.old) (E.faults err.new) }
@@ -60,8 +104,9 @@ fn tell<E: Sink>(err: &mut E, text: &[u8])
     }
 }
 
-/// Reads a file from `input`, takes the steps that it asks for, and writes the report of its printed steps to `out`.
-/// `words` are those of the command line without the program's name: no option is built yet, and every word is refused.
+/// Reads a file from `input`, takes the steps that it asks for, and writes the report of its printed steps to `out`; or, with
+/// `--demo N`, takes the steps of a demonstration and writes its summary. `words` are those of the command line without the
+/// program's name. Those that mean nothing are refused, and so are, as yet, more trees than one, helpers, and traffic.
 /// The text of a refusal goes to `err`. Nothing is written before the last step.
 pub fn run<S: Source, K: Sink, E: Sink>(
     alloc: Global,
@@ -72,19 +117,20 @@ pub fn run<S: Source, K: Sink, E: Sink>(
 ) -> Outcome
     requires { S.ended input.old ≡ false }
 
-    // The words alone decide on `Usage`, and then nothing is read.
-    ensures usage { (result.answer ≡ Answer.Usage) ↔ AreRefused words.now }
-    ensures unread { result.answer ≡ Answer.Usage → input.new ≡ input.old }
+    // The words alone decide on `Usage`: it comes where they ask for nothing that is served, unless memory runs out.
+    ensures usage { result.answer ≡ Answer.Usage → AreRefused (map string_bytes words.now) }
+    ensures refused { AreRefused (map string_bytes words.now) → (result.answer ≡ Answer.Usage) ⊎ (result.answer ≡ Answer.NoMemory) }
 
-    // No byte is read past the end that the source told, nor past the first that is too many.
-    ensures reading { ReadsBy result.answer (S.left input.old) (S.left input.new) (S.ended input.new) }
+    // Nothing is read where they ask for no file: where they are refused, or ask for a demonstration.
+    ensures unread { ¬ Asks (map string_bytes words.now) None → input.new ≡ input.old }
 
-    // At `Done` `out` took exactly the report; at a write fault exactly its first bytes.
-    ensures output { WritesBy result.answer (S.left input.old) (K.taken out.old) (K.taken out.new) }
+    // A file: no byte is read past the end that the source told, nor past the first that is too many; at `Done` `out` took
+    // exactly the report, at a write fault exactly its first bytes; each refusal has its cause in the bytes. A demonstration:
+    // so with its summary, and no refusal comes but want of memory.
+    ensures serves { (asked : Option ℕ) → Asks (map string_bytes words.now) asked → Serves asked result.answer (S.left input.old) (S.left input.new) (S.ended input.new) (K.taken out.old) (K.taken out.new) }
     ensures nothing { WritesNothing result.answer out.old out.new }
 
-    // Each refusal has its cause: in the bytes, or in a count of faults that rose.
-    ensures refusal { RefusalBy result.answer (S.left input.old) }
+    // A fault comes only where a count of faults rose.
     ensures read_fault { ReadFaultRose result.answer (S.faults input.old) (S.faults input.new) }
     ensures write_fault { WriteFaultRose result.answer (K.faults out.old) (K.faults out.new) }
 
@@ -92,11 +138,7 @@ pub fn run<S: Source, K: Sink, E: Sink>(
     ensures status { result.status ≡ status_of result.answer }
     ensures text { TellsAnswer result.answer (S.left input.old) (E.taken err.old) (E.taken err.new) (E.faults err.old) (E.faults err.new) }
 {
-    let ending = if words.is_empty() {
-        served(alloc, input, out)
-    } else {
-        Ending::of(Answer::Usage)
-    };
+    let ending = ended(alloc, words, input, out);
     tell(err, refusal_text(ending.dim, &ending.answer).as_slice());
     Outcome {
         status: ending.answer.status(),
