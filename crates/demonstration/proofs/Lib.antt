@@ -5,3 +5,4 @@ pub mod Kernel
 pub mod Throughout
 pub mod Covers
 pub mod Openings
+pub mod Documents

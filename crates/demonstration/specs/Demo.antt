@@ -37,7 +37,13 @@ zone_at n j = zone_by (draw n (36 + 2 * j) 27) (draw n (36 + 2 * j + 1) 27)
 
 -- the solver: diffusion in a plane, by 1 / (5 * 9 ^ 5), with a copied edge, down to level 5
 abbrev pub demo_solver : AnySolver
-demo_solver = Diffuse (record { dim = Two; a = pos 1; b = pos 295245; edge = Copy; watch = Some (record { hi = pos 100; lo = pos 5; watch = 0; depth = 5 }) })
+demo_solver = Diffuse (record {
+  dim = Two;
+  a = pos 1;
+  b = pos 295245;
+  edge = Copy;
+  watch = Some (record { hi = pos 100; lo = pos 5; watch = 0; depth = 5 });
+})
 
 -- the plan of demonstration `n`: 12 fills and 8 boxes on a grid of base 3 and depth 5, 20 steps, of which the last is printed
 abbrev pub demo : ℕ → Plan

@@ -1,3 +1,4 @@
 pub mod Draws
 pub mod Demo
 pub mod Laws
+pub mod Document

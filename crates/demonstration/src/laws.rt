@@ -1,9 +1,15 @@
 //! What holds of each demonstration: its plan is valid, its opening grid small, and no step of it is refused.
+ghost use Rattle.demonstration.specs.Document.{IsOfDocument};
 ghost use Rattle.demonstration.specs.Laws.{IsValid, OpensSmall, NeverTooLarge, StaysBetween, OpensWithin, StaysThroughout, NeverRefused};
 
 /// The plan of a demonstration is within the ranges of a file's plan.
 pub fn is_valid()
     ensures { IsValid }
+{}
+
+/// The plan of a demonstration is what a document means, so a file could ask for it too.
+pub fn is_of_document()
+    ensures { IsOfDocument }
 {}
 
 /// The opening grid of a demonstration has at most 1,540 cells.
