@@ -1,4 +1,4 @@
--- Demonstrations: a field has a row, and what their answers say.
+-- Demonstrations: a field has a row, their steps are never refused, and what they lead to is summed up.
 use Rattle.std.proofs.Common.{◌≡◌, ℕ, zero, suc, ◌+◌, ◌<◌, Bool, true, false, List, [], ◌∷◌, length, refl, ap, subst, arith, Option, IsSome}
 use Rattle.std.specs.Prelude.{map as maps}
 use Rattle.std.proofs.lemmas.Bool.{false≢true}

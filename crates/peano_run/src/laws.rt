@@ -1,5 +1,5 @@
 //! A file has one outcome: whatever `run` answers, no other answer would have been right, but for want of memory.
-ghost use Rattle.peano_run.specs.Outcome.{OneReport, NoneIsBoth, OneRefusal};
+ghost use Rattle.peano_run.specs.Outcome.{OneReport, NoneIsBoth, OneRefusal, OneSummary};
 
 /// A file has at most one report.
 pub fn one_report()
@@ -14,4 +14,9 @@ pub fn none_is_both()
 /// A file is refused by one answer, or for want of memory.
 pub fn one_refusal()
     ensures { OneRefusal }
+{}
+
+/// A demonstration has at most one summary.
+pub fn one_summary()
+    ensures { OneSummary }
 {}

@@ -79,9 +79,11 @@ fn served<S: Source, K: Sink>(
 fn ended<S: Source, K: Sink>(alloc: Global, words: &[String], input: &mut S, out: &mut K) -> Ending
     requires { S.ended input.old ≡ false }
     ensures usage { result.answer ≡ Answer.Usage → AreRefused (map string_bytes words.now) }
-    ensures refused { AreRefused (map string_bytes words.now) → (result.answer ≡ Answer.Usage) ⊎ (result.answer ≡ Answer.NoMemory) }
+    ensures refused { AreRefused (map string_bytes words.now)
+        → (result.answer ≡ Answer.Usage) ⊎ (result.answer ≡ Answer.NoMemory) }
     ensures unread { ¬ Asks (map string_bytes words.now) None → input.new ≡ input.old }
-    ensures serves { (asked : Option ℕ) → Asks (map string_bytes words.now) asked → Serves asked result.answer (S.left input.old) (S.left input.new) (S.ended input.new) (K.taken out.old) (K.taken out.new) }
+    ensures serves { (asked : Option ℕ) → Asks (map string_bytes words.now) asked
+        → Serves asked result.answer (S.left input.old) (S.left input.new) (S.ended input.new) (K.taken out.old) (K.taken out.new) }
     ensures nothing { WritesNothing result.answer out.old out.new }
     ensures read_fault { ReadFaultRose result.answer (S.faults input.old) (S.faults input.new) }
     ensures write_fault { WriteFaultRose result.answer (K.faults out.old) (K.faults out.new) }
@@ -119,7 +121,8 @@ pub fn run<S: Source, K: Sink, E: Sink>(
 
     // The words alone decide on `Usage`: it comes where they ask for nothing that is served, unless memory runs out.
     ensures usage { result.answer ≡ Answer.Usage → AreRefused (map string_bytes words.now) }
-    ensures refused { AreRefused (map string_bytes words.now) → (result.answer ≡ Answer.Usage) ⊎ (result.answer ≡ Answer.NoMemory) }
+    ensures refused { AreRefused (map string_bytes words.now)
+        → (result.answer ≡ Answer.Usage) ⊎ (result.answer ≡ Answer.NoMemory) }
 
     // Nothing is read where they ask for no file: where they are refused, or ask for a demonstration.
     ensures unread { ¬ Asks (map string_bytes words.now) None → input.new ≡ input.old }
@@ -127,7 +130,8 @@ pub fn run<S: Source, K: Sink, E: Sink>(
     // A file: no byte is read past the end that the source told, nor past the first that is too many; at `Done` `out` took
     // exactly the report, at a write fault exactly its first bytes; each refusal has its cause in the bytes. A demonstration:
     // so with its summary, and no refusal comes but want of memory.
-    ensures serves { (asked : Option ℕ) → Asks (map string_bytes words.now) asked → Serves asked result.answer (S.left input.old) (S.left input.new) (S.ended input.new) (K.taken out.old) (K.taken out.new) }
+    ensures serves { (asked : Option ℕ) → Asks (map string_bytes words.now) asked
+        → Serves asked result.answer (S.left input.old) (S.left input.new) (S.ended input.new) (K.taken out.old) (K.taken out.new) }
     ensures nothing { WritesNothing result.answer out.old out.new }
 
     // A fault comes only where a count of faults rose.
