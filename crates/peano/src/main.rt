@@ -1,4 +1,5 @@
-//! The program: reads a file from standard input and writes its report to standard output.
+//! The program: reads a file from standard input and writes its report to standard output, or writes the summary of a
+//! demonstration and reads nothing.
 #![tactic(auto)]
 
 use peano_io::{StdSink, StdSource, write_whole};
