@@ -6,4 +6,5 @@ pub mod Gathered
 pub mod Calls
 pub mod Amounts
 pub mod Swept
+pub mod Whole
 pub mod Exact

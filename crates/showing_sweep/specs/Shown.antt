@@ -47,7 +47,7 @@ pub record Amounts : Type 0 where
   pub skeleton : ℕ
   pub sent : ℕ
 
--- they are right: of the corners of all cells each hangs, or is that of a vertex at the last cell round it, or is one of which the vertex is pushed
+-- they are right: each counts its set; and of the corners of all cells that the tree holds each hangs, or its vertex is pushed on from that cell, or that cell is the vertex's last
 pub record AreAmounts (k : Cuts) (g : Spacetree) (t : ℕ) (n : Amounts) : Type 0 where
   pub cells : AreSoMany (HoldsCellOf k g t) n.cells
   pub stored : AreSoMany (HasVertex k g t) n.stored

@@ -2,7 +2,8 @@ use Rattle.std.proofs.Common.{ap, refl}
 use Rattle.curve_cuts.specs.Keys.{cuts_of}
 use Rattle.showing_sweep.specs.declared.counts.CellCounts.{CellCounts}
 use Rattle.showing_sweep.specs.Shows.{ShowWork}
-use Rattle.showing_sweep.proofs.Swept.{can_show, same_traffic, showing_meaning, shown_told, vertices_of}
+use Rattle.showing_sweep.proofs.Swept.{can_show, same_traffic, showing_meaning, vertices_of}
+use Rattle.showing_sweep.proofs.Whole.{shown_told}
 use Rattle.showing_sweep.proofs.shown.show_tree.Goals as goal
 
 pub sent_from-sent-requires-clause-vertices : goal.sent_from-sent-requires-clause-vertices
