@@ -17,7 +17,7 @@ use std::alloc::{AllocError, Global};
 use tree_automaton::{TreeStore, sweep};
 use vertex_stacks::{Kind, SweepNote};
 
-/// What a tree shows of a grid and a field: a row of each leaf that it owns, in the order of the sweep, and its traffic.
+/// What a tree shows of a grid and a field: a row of each leaf that it owns, in no promised order, and its traffic.
 #[derive(Debug, Drop)]
 pub struct Shown {
     pub rows: Vec<Row>,
