@@ -22,3 +22,5 @@ pub mod Advances
 pub mod Showns
 pub mod InOrder
 pub mod Rests
+pub mod Families
+pub mod LeafCounts

@@ -3,6 +3,7 @@ pub mod Along
 pub mod Boxes
 pub mod Notes
 pub mod Worlds
+pub mod LeafCounts
 pub mod Starts
 pub mod Computing
 pub mod Finishing

@@ -1,5 +1,6 @@
 //! Laws of worlds.
 ghost use Rattle.step_driver.specs.Worlds.{WorldIsAtOne, WorldStands};
+ghost use Rattle.step_driver.specs.LeafCounts.{RowsAreLeaves};
 ghost use Rattle.step_driver.specs.Showing.{OneTraffic};
 
 use solver_api::Solver;
@@ -17,4 +18,9 @@ pub fn world_stands<S: Solver>()
 /// The traffic of all trees is one list.
 pub fn one_traffic()
     ensures { OneTraffic }
+{}
+
+/// A field has as many rows as its grid has leaves.
+pub fn rows_are_leaves()
+    ensures { RowsAreLeaves }
 {}

@@ -1,6 +1,7 @@
-//! The size of the next grid.
-ghost use Rattle.std.specs.Prelude.{◌≡◌, ◌*◌, ◌^◌, ◌≤◌};
+//! How many leaves a grid has, and the size of the next grid.
+ghost use Rattle.std.specs.Prelude.{◌≡◌, ℕ, ◌-◌, ◌*◌, ◌^◌, ◌≤◌};
 ghost use Rattle.peano_keys.specs.Dim.{axes};
+ghost use Rattle.spacetree.specs.Counts.{cells_for};
 ghost use Rattle.step_driver.specs.Sizes.{HasTurnover, IsSizeAfter};
 
 use crate::finishing::Turnover;
@@ -28,4 +29,12 @@ pub(crate) fn size_after(cells: u64, dim: Dim, turnover: Turnover) -> u64
     let added = children_of(dim, turnover.splits);
     let removed = children_of(dim, turnover.merges);
     cells + added - removed
+}
+
+/// How many leaves a grid of so many cells has. A refined cell has nine children, or 27 in space, and only the root is a
+/// child of none: so of the cells one in nine is refined, or one in 27, rounded down.
+pub(crate) fn leaves_among(cells: u64, dim: Dim) -> u64
+    ensures { (refined : ℕ) → cells ≡ cells_for dim refined → result ≡ cells - refined }
+{
+    cells - cells / children_of(dim, 1)
 }

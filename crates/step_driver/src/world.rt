@@ -1,8 +1,9 @@
 //! The world.
-ghost use Rattle.std.specs.Prelude.{◌≡◌, ◌<◌, ◌≤◌, true, IfOk, length};
+ghost use Rattle.std.specs.Prelude.{◌≡◌, ℕ, ◌<◌, ◌≤◌, true, IfOk, length};
 ghost use Rattle.peano_keys.specs.Grid.{IsGrid, Spacetree};
 ghost use Rattle.peano_keys.specs.Field.{States};
-ghost use Rattle.spacetree.specs.Fields.{IsFieldOn};
+ghost use Rattle.spacetree.specs.Counts.{leaves_of};
+ghost use Rattle.spacetree.specs.Fields.{IsFieldOn, rows_of};
 ghost use Rattle.curve_cuts.specs.Keys.{cuts_of};
 ghost use Rattle.step_world.specs.Notes.{note_raised, by_trees};
 ghost use Rattle.step_driver.specs.Notes.{sizes_of};
@@ -14,6 +15,7 @@ ghost use Rattle.step_driver.specs.Showing.{Shows};
 use crate::keys::first_keys;
 use crate::raising::{Forest, plant};
 use crate::showing::{Shown, show_trees};
+use crate::size::leaves_among;
 use crate::stepping::take_step;
 use curve_cuts::Keys;
 use solver_api::Solver;
@@ -163,6 +165,14 @@ impl<S: Solver> World<S> {
         ensures { result ≡ self.now.cells }
     {
         self.cells
+    }
+
+    /// How many leaves the grid has, each of which is a row of its field. Of a world that is not live it tells nothing.
+    pub fn leaf_count(&self) -> u64
+        ensures leaves { (parts : ℕ) (g : Spacetree) (f : States) (step : ℕ) → IsAt parts self.now g f step → result ≡ leaves_of g }
+        ensures rows { (parts : ℕ) (g : Spacetree) (f : States) (step : ℕ) → IsAt parts self.now g f step → result ≡ length (rows_of f) }
+    {
+        leaves_among(self.cells, self.keys.dim())
     }
 
     /// Whether no step and no showing was refused.

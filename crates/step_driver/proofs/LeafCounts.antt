@@ -1,0 +1,135 @@
+-- A field on a grid has as many rows as the grid has leaves.
+use Rattle.std.proofs.Common.{◌≡◌, ⊎_elim, ℕ, ◌-◌, ◌*◌, ◌^◌, ◌<◌, ◌||◌, ◌&&◌, Bool, true, false, T, refl, sym, ap, ◌∙◌, arith, List, [], ◌∷◌, length, map}
+use Rattle.std.specs.FinMap as fin
+use Rattle.std.specs.FinMap.{is_sorted}
+use Rattle.std.specs.FinMap.Entries.{below_all}
+use Rattle.std.specs.FinSet as set
+use Rattle.std.specs.Cmp.{both_ways}
+use Rattle.std.specs.Ordering.{is_lt, is_eq}
+use Rattle.std.specs.declared.cmp.Ordering.{Ordering}
+use Rattle.std.specs.declared.cmp.Ordering.TheVariants.{Less, Equal, Greater}
+use Rattle.std.proofs.lemmas.Bool.{cases_eq}
+use Rattle.std.proofs.lemmas.List.{length-map}
+use Rattle.peano_keys.specs.declared.dim.Dim.{Dim}
+use Rattle.peano_keys.specs.declared.cell.CellKey.{CellKey}
+use Rattle.peano_keys.specs.declared.state.State.{State}
+use Rattle.peano_keys.specs.Dim.{axes}
+use Rattle.peano_keys.specs.Cell.{IsCell, parent_of, root, key_cmp}
+use Rattle.peano_keys.specs.Grid.{Cells, Spacetree, IsGrid, is_refined, has_cell}
+use Rattle.peano_keys.specs.Field.{States}
+use Rattle.solver_api.specs.Step.{IsLeafOf}
+use Rattle.spacetree.specs.Counts.{cells_for, cells_of, leaves_of}
+use Rattle.spacetree.specs.Digits.{digits_at, number_in}
+use Rattle.spacetree.specs.Fields.{IsFieldOn, row_of, rows_of}
+use Rattle.spacetree.specs.Leaves.{is_among}
+use Rattle.spacetree.proofs.CellMaps.{cells_total, exact_cells}
+use Rattle.spacetree.proofs.Children.{child_by_number, number_bound, root_is, child_cell, third_digit}
+use Rattle.spacetree.proofs.Leaves.{leaf_from, leaf_there, not_leaf, parent_refined, child_there}
+use Rattle.hanging_nodes.proofs.TwoGrids.{refined_there}
+use Rattle.step_world.specs.Counts.{EachOnce}
+use Rattle.step_world.proofs.Counts.{with_all, has_all, many, false_by}
+use Rattle.step_world.proofs.Exists.{or_left, or_after, or_one, true_told}
+use Rattle.step_driver.specs.LeafCounts.{RowsAreLeaves}
+use Rattle.step_driver.proofs.Families.{in_list, child, digits_are, families, family_cases, family_root, family_has, family_many}
+
+both_hold : (a b : Bool) → T (a && b) → T a × T b
+both_hold true b h = (tt, h)
+both_hold false b h = absurd h
+
+less_apart : (o : Ordering) → T (is_lt o) → is_eq o ≡ false
+less_apart Less h = refl
+less_apart Equal h = absurd h
+less_apart Greater h = absurd h
+
+-- keys in order stand there once
+abbrev keys_in : List (CellKey × State) → List CellKey
+keys_in es = map (λ (e : CellKey × State). e.0) es
+
+not_below : (c : CellKey) (es : List (CellKey × State)) → T (below_all key_cmp c es) → is_among (keys_in es) c ≡ false
+not_below c [] h = refl
+not_below c (e ∷ es) h =
+    let parts = both_hold (is_lt (key_cmp c e.0)) (below_all key_cmp c es) h in
+    ap (λ b. b || is_among (keys_in es) c) (less_apart (key_cmp c e.0) parts.0) ∙ not_below c es parts.1
+
+once_in : (es : List (CellKey × State)) → T (is_sorted key_cmp es) → EachOnce (keys_in es)
+once_in [] h = tt
+once_in (e ∷ es) h =
+    let parts = both_hold (below_all key_cmp e.0 es) (is_sorted key_cmp es) h in
+    (not_below e.0 es parts.0, once_in es parts.1)
+
+keys_once : (f : States) → EachOnce (fin.keys f)
+keys_once f = once_in (fin.entries f) (fin.entries_sorted f)
+
+-- the set of the cells of a set is the set
+of_items : (s : Cells) → with_all set.empty (set.items s) ≡ s
+of_items s = set.same_set cells_total exact_cells _ _ (λ q. in_list (set.items s) q ∙ sym (set.contains-items s q))
+
+module _ (parts : ℕ) (g : Spacetree) (f : States) (grid : IsGrid 12 g) (on : IsFieldOn parts g f) where
+  -- the leaves are the keys of the field
+  leaf_among : (c : CellKey) → IsLeafOf g c → is_among (fin.keys f) c ≡ true
+  leaf_among c leaf = sym (fin.contains_key-keys f c) ∙ (on.leaves c).1 leaf
+
+  among_leaf : (c : CellKey) → is_among (fin.keys f) c ≡ true → IsLeafOf g c
+  among_leaf c h = (on.leaves c).0 (fin.contains_key-keys f c ∙ h)
+
+  -- the refined cells and the leaves,
+  abbrev both_kinds : Cells
+  both_kinds = with_all g.refined (fin.keys f)
+
+  -- and the root and the children of the refined ones
+  abbrev all_families : Cells
+  all_families = families g.dim (set.items g.refined)
+
+  in_kinds : (c : CellKey) → IsCell g.dim c → has_cell g c ≡ true → set.contains both_kinds c ≡ true
+  in_kinds c cell there = has_all g.refined (fin.keys f) c ∙ ⊎_elim
+      (λ refined. or_left (is_refined g c) (is_among (fin.keys f) c) refined)
+      (λ apart. or_after (is_refined g c) (is_among (fin.keys f) c) (leaf_among c (leaf_from g c cell there (false_by (is_refined g c) apart))))
+      (true_told (is_refined g c))
+
+  in_families : (c : CellKey) → IsCell g.dim c → has_cell g c ≡ true → set.contains all_families c ≡ true
+  in_families c cell there = ⊎_elim
+      (λ e. ap (set.contains all_families) (root_is g.dim c cell e) ∙ family_root g.dim (set.items g.refined))
+      (λ apart.
+      let below : 0 < c.level = omega (arith, apart) in
+      let own = child_by_number g.dim c (parent_of c) (number_in g.dim c) cell below refl refl in
+      ap (set.contains all_families) own ∙ family_has g.dim (set.items g.refined) (parent_of c) (number_in g.dim c) (sym (set.contains-items g.refined (parent_of c)) ∙ parent_refined g c below there) (number_bound g.dim c))
+      (cases_eq c.level 0)
+
+  from_kinds : (c : CellKey) → set.contains both_kinds c ≡ true → set.contains all_families c ≡ true
+  from_kinds c h = ⊎_elim
+      (λ refined. in_families c (grid.cells c refined) (refined_there 12 g c grid refined))
+      (λ key. let leaf = among_leaf c key in in_families c leaf.cell (leaf_there g c leaf))
+      (or_one (is_refined g c) (is_among (fin.keys f) c) (sym (has_all g.refined (fin.keys f) c) ∙ h))
+
+  listed_refined : (p : CellKey) → is_among (set.items g.refined) p ≡ true → is_refined g p ≡ true
+  listed_refined p h = set.contains-items g.refined p ∙ h
+
+  root_cell : IsCell g.dim root
+  root_cell = grind arith
+
+  from_families : (c : CellKey) → set.contains all_families c ≡ true → set.contains both_kinds c ≡ true
+  from_families c h = ⊎_elim
+      (λ e. ap (set.contains both_kinds) e ∙ in_kinds root root_cell refl)
+      (λ r.
+      let refined = listed_refined r.0 r.2 in
+      let cell = grid.cells r.0 refined in
+      let d = digits_are g.dim r.1 r.3 in
+      ap (set.contains both_kinds) r.4 ∙ in_kinds (child g.dim r.0 r.1) (child_cell g.dim r.0 (digits_at g.dim r.1) cell (grid.levels r.0 refined) d) (child_there g r.0 (digits_at g.dim r.1) cell.shape d.first d.second (third_digit g.dim (digits_at g.dim r.1) d) refined))
+      (family_cases g.dim (set.items g.refined) c h)
+
+  same_cells : both_kinds ≡ all_families
+  same_cells = set.same_set cells_total exact_cells both_kinds all_families (λ c. both_ways (set.contains both_kinds c) (set.contains all_families c) (from_kinds c) (from_families c))
+
+  pub as_many_rows : length (rows_of f) ≡ leaves_of g
+  as_many_rows =
+      let kinds = many g.refined (fin.keys f) (keys_once f) (λ c key refined. not_leaf g c refined (among_leaf c key)) in
+      let all = family_many g.dim (set.items g.refined) (λ p h. (grid.cells p (listed_refined p h)).shape) in
+      let size = ap (λ (s : Cells). 3 ^ axes g.dim * set.len s) (of_items g.refined) in
+      omega (arith, kinds, all, size, ap set.len same_cells, length-map (fin.entries f) row_of, length-map (fin.entries f) (λ e. e.0))
+
+pub rows_are_leaves : RowsAreLeaves
+rows_are_leaves parts g f grid on = as_many_rows parts g f grid on
+
+-- what is told of a number of cells is so of the grid that has so many
+pub leaves_told : (g : Spacetree) (dim : Dim) (cells leaves : ℕ) → cells ≡ cells_of g → g.dim ≡ dim → ((refined : ℕ) → cells ≡ cells_for dim refined → leaves ≡ cells - refined) → leaves ≡ leaves_of g
+leaves_told g dim cells leaves size dims told = told (set.len g.refined) (size ∙ ap (λ d. cells_for d (set.len g.refined)) dims) ∙ ap (λ n. n - set.len g.refined) size
