@@ -54,19 +54,24 @@ first_notes f m (suc n) below = ⊎_elim
 pub adds_trees : (f : ℕ → Note) (m n : ℕ) (old now : List Note) → m ≤ n → now ≡ old ++ by_trees m f → AddsFirst old now (by_trees n f)
 adds_trees f m n old now below noted =
     let rest = first_notes f m n below in
-    (rest.0, ap (λ xs. old ++ xs) rest.1 ∙ sym (append_assoc old (by_trees m f) rest.0) ∙ ap (λ xs. xs ++ rest.0) (sym noted))
+    (by_trees m f, rest.0, noted, rest.1)
 
 -- more may be to come,
 pub adds_more : (old now first then : List Note) → AddsFirst old now first → AddsFirst old now (first ++ then)
-adds_more old now first then h = (h.0 ++ then, sym (append_assoc old first then) ∙ ap (λ xs. xs ++ then) h.1 ∙ append_assoc now h.0 then)
+adds_more old now first then h = (h.0, h.1 ++ then, h.2, ap (λ xs. xs ++ then) h.3 ∙ append_assoc h.0 h.1 then)
 
 -- or some came before,
 pub adds_after : (old mid now first then : List Note) → mid ≡ old ++ first → AddsFirst mid now then → AddsFirst old now (first ++ then)
-adds_after old mid now first then before h = (h.0, sym (append_assoc old first then) ∙ ap (λ xs. xs ++ then) (sym before) ∙ h.1)
+adds_after old mid now first then before h = (
+  first ++ h.0,
+  h.1,
+  h.2 ∙ ap (λ xs. xs ++ h.0) before ∙ append_assoc old first h.0,
+  ap (λ xs. first ++ xs) h.3 ∙ sym (append_assoc first h.0 h.1),
+)
 
 -- or all are there
 pub adds_all : (old now all : List Note) → now ≡ old ++ all → AddsFirst old now all
-adds_all old now all noted = ([], sym noted ∙ sym (append-nil now))
+adds_all old now all noted = (all, [], noted, sym (append-nil all))
 
 -- what is noted after two parts
 pub both_noted : (old mid now first then : List Note) → mid ≡ old ++ first → now ≡ mid ++ then → now ≡ old ++ (first ++ then)

@@ -35,4 +35,4 @@ added_notes k adapts step g h = step_notes (sizes_of k) (record { trees = k.tree
 
 -- the notes that were added to some are the first of others
 abbrev pub AddsFirst : List Note → List Note → List Note → Type 0
-AddsFirst old new all = (rest : List Note) × (old ++ all ≡ new ++ rest)
+AddsFirst old new all = (first : List Note) × (rest : List Note) × (new ≡ old ++ first) × (all ≡ first ++ rest)
