@@ -6,6 +6,7 @@ use Rattle.peano_io.specs.Reading.{ReadsToEnd}
 use Rattle.peano_keys.specs.declared.dim.Dim.{Dim}
 use Rattle.peano_run.specs.declared.answer.Answer.{Answer}
 use Rattle.peano_run.specs.declared.answer.Answer.TheVariants.{Done, Usage, ReadFault, TooLong, Malformed, Limit, Crowded, Overflow, WriteFault, NoMemory}
+use Rattle.peano_run.specs.declared.asked.Request.{Request}
 use Rattle.peano_run.specs.declared.ending.Ending.{Ending}
 use Rattle.peano_run.specs.Report.{IsReport, IsRefused, longest_input}
 use Rattle.peano_run.specs.Run.{RefusalOf, NamesIn, EndsBy, ReadFaultRose, ReadsBy, IsReadWhole, LosesOf, IsEarly, Reports}
@@ -25,17 +26,17 @@ whole None after ended bytes read end short = end
 whole (Some all) after ended bytes read end short = (end, read.1, subst (λ (b : List ℕ). length b ≤ longest_input) read.0 short)
 
 -- a refusal of the file comes before anything is written, and no read has failed
-early : (bytes : List ℕ) (before after : Option (List ℕ)) (ended : Bool) (faults now : ℕ) (a : Answer) → length bytes ≤ longest_input → now ≡ faults → IsReadWhole before after ended → LosesOf (λ n. n ≤ longest_input + 1) before after → IsRefused bytes a → RefusalOf a bytes × ReadsBy a before after ended × ReadFaultRose a faults now × IsEarly a
-early bytes before after ended faults now Done short same read lost h = absurd h
-early bytes before after ended faults now Usage short same read lost h = absurd h
-early bytes before after ended faults now ReadFault short same read lost h = absurd h
-early bytes before after ended faults now TooLong short same read lost h = absurd (omega (arith, short, h))
-early bytes before after ended faults now (Malformed code place) short same read lost h = (h, read, same, tt)
-early bytes before after ended faults now (Limit which number) short same read lost h = (h, read, same, tt)
-early bytes before after ended faults now (Crowded step cells) short same read lost h = (h, read, same, tt)
-early bytes before after ended faults now (Overflow step leaf) short same read lost h = (h, read, same, tt)
-early bytes before after ended faults now (WriteFault written) short same read lost h = absurd h
-early bytes before after ended faults now NoMemory short same read lost h = (h, lost, same, tt)
+early : (r : Request) (bytes : List ℕ) (before after : Option (List ℕ)) (ended : Bool) (faults now : ℕ) (a : Answer) → length bytes ≤ longest_input → now ≡ faults → IsReadWhole before after ended → LosesOf (λ n. n ≤ longest_input + 1) before after → IsRefused r bytes a → RefusalOf r a bytes × ReadsBy a before after ended × ReadFaultRose a faults now × IsEarly a
+early r bytes before after ended faults now Done short same read lost h = absurd h
+early r bytes before after ended faults now Usage short same read lost h = absurd h
+early r bytes before after ended faults now ReadFault short same read lost h = absurd h
+early r bytes before after ended faults now TooLong short same read lost h = absurd (omega (arith, short, h))
+early r bytes before after ended faults now (Malformed code place) short same read lost h = (h, read, same, tt)
+early r bytes before after ended faults now (Limit which number) short same read lost h = (h, read, same, tt)
+early r bytes before after ended faults now (Crowded step cells) short same read lost h = (h, read, same, tt)
+early r bytes before after ended faults now (Overflow step leaf) short same read lost h = (h, read, same, tt)
+early r bytes before after ended faults now (WriteFault written) short same read lost h = absurd h
+early r bytes before after ended faults now NoMemory short same read lost h = (h, lost, same, tt)
 
 -- where the source tells nothing, nothing is said of it
 untold : (dim : Dim) (a : Answer) → NamesIn dim a None
@@ -51,13 +52,13 @@ untold dim (WriteFault written) = tt
 untold dim NoMemory = tt
 
 -- what is said of the bytes that were read is said of those that the source had
-pub reports_from : (before after : Option (List ℕ)) (ended : Bool) (faults now : ℕ) (bytes slice : List ℕ) (result : Result (Vec ℕ Global) Ending) → ReadsToEnd before after bytes → ended ≡ true → length bytes ≤ longest_input → slice ≡ bytes → now ≡ faults → IfOk result (λ text. IsReport slice text.items) → IfErr result (λ ending. EndsBy ending slice) → Reports before after ended faults now result
-reports_from None after ended faults now bytes slice (Ok text) read end short same count ok err = (end, count)
-reports_from (Some all) after ended faults now bytes slice (Ok text) read end short same count ok err = (subst (λ (b : List ℕ). IsReport b text.items) (same ∙ read.0) ok, whole (Some all) after ended bytes read end short, count)
-reports_from None after ended faults now bytes slice (Err ending) read end short same count ok err =
-    let ends = early slice None after ended faults now ending.answer (subst (λ (b : List ℕ). length b ≤ longest_input) (sym same) short) count (whole None after ended bytes read end short) (lost_all None after bytes read short) err.0 in
+pub reports_from : (r : Request) (before after : Option (List ℕ)) (ended : Bool) (faults now : ℕ) (bytes slice : List ℕ) (result : Result (Vec ℕ Global) Ending) → ReadsToEnd before after bytes → ended ≡ true → length bytes ≤ longest_input → slice ≡ bytes → now ≡ faults → IfOk result (λ text. IsReport r slice text.items) → IfErr result (λ ending. EndsBy r ending slice) → Reports r before after ended faults now result
+reports_from r None after ended faults now bytes slice (Ok text) read end short same count ok err = (end, count)
+reports_from r (Some all) after ended faults now bytes slice (Ok text) read end short same count ok err = (subst (λ (b : List ℕ). IsReport r b text.items) (same ∙ read.0) ok, whole (Some all) after ended bytes read end short, count)
+reports_from r None after ended faults now bytes slice (Err ending) read end short same count ok err =
+    let ends = early r slice None after ended faults now ending.answer (subst (λ (b : List ℕ). length b ≤ longest_input) (sym same) short) count (whole None after ended bytes read end short) (lost_all None after bytes read short) err.0 in
     (tt, ends.1, ends.2, ends.3, untold ending.dim ending.answer)
-reports_from (Some all) after ended faults now bytes slice (Err ending) read end short same count ok err =
-    let said = subst (EndsBy ending) (same ∙ read.0) err in
-    let ends = early all (Some all) after ended faults now ending.answer (subst (λ (b : List ℕ). length b ≤ longest_input) read.0 short) count (whole (Some all) after ended bytes read end short) (lost_all (Some all) after bytes read short) said.0 in
+reports_from r (Some all) after ended faults now bytes slice (Err ending) read end short same count ok err =
+    let said = subst (EndsBy r ending) (same ∙ read.0) err in
+    let ends = early r all (Some all) after ended faults now ending.answer (subst (λ (b : List ℕ). length b ≤ longest_input) read.0 short) count (whole (Some all) after ended bytes read end short) (lost_all (Some all) after bytes read short) said.0 in
     (ends.0, ends.1, ends.2, ends.3, said.1)

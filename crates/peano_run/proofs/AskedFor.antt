@@ -1,13 +1,45 @@
 -- Words ask for one thing at most.
-use Rattle.std.proofs.Common.{◌≡◌, ℕ, List, Option, ap, sym, ◌∙◌, subst}
+use Rattle.std.proofs.Common.{◌≡◌, ℕ, List, Some, None, ap, sym, ◌∙◌, subst}
+use Rattle.std.specs.Prelude.{Result, Ok, Err}
+use Rattle.std.specs.Result.{IsErrAnd}
+use Rattle.command_line.specs.declared.words.WordsFault.{WordsFault}
+use Rattle.command_line.specs.declared.words.WordsFault.TheVariants.{Usage}
 use Rattle.command_line.specs.declared.words.Words.{Words}
 use Rattle.command_line.specs.CommandLine.{Text, Means}
 use Rattle.command_line.proofs.Meaning.{one}
-use Rattle.peano_run.specs.Asked.{IsServed, Asks, AreRefused}
+use Rattle.peano_run.specs.declared.asked.Asked.{Asked}
+use Rattle.peano_run.specs.declared.asked.Asked.TheVariants.{File, Demo}
+use Rattle.peano_run.specs.declared.asked.Request.{Request}
+use Rattle.peano_run.specs.Asked.{AsksFor, Asks, AreRefused}
 
-pub one_asked : (words : List Text) (a b : Option ℕ) → Asks words a → Asks words b → a ≡ b
-one_asked words a b h g = sym h.demo ∙ ap (λ (w : Words). w.demo) (one words h.settings g.settings h.means g.means) ∙ g.demo
+none_some : (n : ℕ) → None ≡ Some n → ⊥
+none_some n e = cc
+
+some_is : (n m : ℕ) → Some n ≡ Some m → n ≡ m
+some_is n m e = cc
+
+one_for : (w : Words) (a b : Asked) → AsksFor w a → AsksFor w b → a ≡ b
+one_for w (File r) (File s) h g =
+    let trees : r.trees ≡ s.trees = h.2 ∙ sym g.2 in
+    let show : r.show ≡ s.show = h.3 ∙ sym g.3 in
+    λ i. File (record { trees = trees i; show = show i })
+one_for w (File r) (Demo n) h g = absurd (none_some n (sym h.1 ∙ g.1))
+one_for w (Demo n) (File r) h g = absurd (none_some n (sym g.1 ∙ h.1))
+one_for w (Demo n) (Demo m) h g = ap Demo (some_is n m (sym h.1 ∙ g.1))
+
+pub one_asked : (words : List Text) (a b : Asked) → Asks words a → Asks words b → a ≡ b
+one_asked words a b h g =
+    let same : h.settings ≡ g.settings = one words h.settings g.settings h.means g.means in
+    one_for g.settings a b (subst (λ (w : Words). AsksFor w a) same h.asks) g.asks
 
 -- and for nothing where they mean settings that are not served
-pub not_served : (words : List Text) (w : Words) → Means words w → ¬ IsServed w → AreRefused words
-not_served words w means apart asked asks = apart (subst IsServed (one words asks.settings w asks.means means) asks.served)
+pub not_served : (words : List Text) (w : Words) → Means words w → ((a : Asked) → ¬ AsksFor w a) → AreRefused words
+not_served words w means apart asked asks = apart asked (subst (λ (x : Words). AsksFor x asked) (one words asks.settings w asks.means means) asks.asks)
+
+-- nor where they mean none
+pub refused_words : (words : List Text) (res : Result Asked WordsFault) (e : WordsFault) (Q : WordsFault → Type 0) → ((d : WordsFault) → Q d → d ≡ e) → IsErrAnd res Q → (e ≡ Usage → (w : Words) → ¬ Means words w) → res ≡ Err Usage → AreRefused words
+refused_words words (Ok a) e Q to h none same asked asks = absurd h
+refused_words words (Err d) e Q to h none same asked asks = none (sym (to d h) ∙ fault_is d same) asks.settings asks.means
+  where
+    fault_is : (d : WordsFault) → ◌≡◌ {A = Result Asked WordsFault} (Err d) (Err Usage) → d ≡ Usage
+    fault_is d e = cc

@@ -1,22 +1,40 @@
 -- What the words of a command line ask for, as far as it is served.
-use Rattle.std.specs.Prelude.{◌≡◌, ℕ, List, Option}
-use Rattle.command_line.specs.declared.words.ShowWhat.TheVariants.{Fields}
+use Rattle.std.specs.Prelude.{◌≡◌, ◌≤◌, ℕ, List, Option, None, Some}
 use Rattle.command_line.specs.declared.words.Words.{Words}
 use Rattle.command_line.specs.CommandLine.{Text, Means}
+use Rattle.peano_run.specs.declared.asked.Asked.{Asked}
+use Rattle.peano_run.specs.declared.asked.Asked.TheVariants.{File, Demo}
+use Rattle.peano_run.specs.declared.asked.Request.{Request}
 
--- the settings that are served: one tree, no helpers, and the fields shown
-pub record IsServed (w : Words) : Type 0 where
-  pub trees : w.trees ≡ 1
-  pub workers : w.workers ≡ 0
-  pub shown : w.show ≡ Fields
+-- settings ask for a file by so many trees, with what is shown of it, or for the demonstration of a number, by one tree. No helpers are served yet.
+abbrev pub AsksFor : Words → Asked → Type 0
+AsksFor w (File r) = (w.workers ≡ 0) × (w.demo ≡ None) × (r.trees ≡ w.trees) × (r.show ≡ w.show)
+AsksFor w (Demo n) = (w.workers ≡ 0) × (w.demo ≡ Some n) × (w.trees ≡ 1)
 
--- the words ask for the demonstration of this number or, where it is none, for the report of a file
-pub record Asks (words : List Text) (asked : Option ℕ) : Type 0 where
+-- what settings ask for, if it is served
+abbrev pub AsksNow : Words → Option Asked → Type 0
+AsksNow w (Some asked) = AsksFor w asked
+AsksNow w None = (asked : Asked) → ¬ AsksFor w asked
+
+-- so do words that mean them
+pub record Asks (words : List Text) (asked : Asked) : Type 0 where
   pub settings : Words
   pub means : Means words settings
-  pub served : IsServed settings
-  pub demo : settings.demo ≡ asked
+  pub asks : AsksFor settings asked
 
 -- the words ask for nothing that is served: they mean nothing, or settings that are not served yet
 abbrev pub AreRefused : List Text → Type 0
-AreRefused words = (asked : Option ℕ) → ¬ Asks words asked
+AreRefused words = (asked : Asked) → ¬ Asks words asked
+
+-- they ask for no file
+abbrev pub AskForNoFile : List Text → Type 0
+AskForNoFile words = (r : Request) → ¬ Asks words (File r)
+
+-- a file is run by 1 to 64 trees
+pub record IsRequest (r : Request) : Type 0 where
+  pub some : 1 ≤ r.trees
+  pub most : r.trees ≤ 64
+
+abbrev pub HasTrees : Asked → Type 0
+HasTrees (File r) = IsRequest r
+HasTrees (Demo n) = Unit {0}

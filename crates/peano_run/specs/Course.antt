@@ -1,50 +1,59 @@
 -- The course of a run as the program holds it.
-use Rattle.std.specs.Prelude.{◌≡◌, ℕ, ◌+◌, ◌<◌, ◌≤◌, ◌++◌, length}
-use Rattle.peano_keys.specs.Grid.{IsGrid}
+use Rattle.std.specs.Prelude.{◌≡◌, ℕ, ◌+◌, ◌<◌, ◌≤◌, List, ◌++◌, length, if◌then◌else◌, Result, Ok, Err}
+use Rattle.peano_keys.specs.Field.{States}
+use Rattle.spacetree.specs.Fields.{rows_of}
 use Rattle.volume_solver.specs.Any.{parts_in}
-use Rattle.spacetree.specs.Fields.{IsFieldOn, rows_of}
-use Rattle.field_report.specs.Block.{field_block}
+use Rattle.curve_cuts.specs.Keys.{cuts_of}
+use Rattle.step_driver.specs.Worlds.{IsAt}
 use Rattle.grid_file.specs.declared.plan.Plan.{Plan}
 use Rattle.peano_run.specs.declared.answer.Answer.{Answer}
 use Rattle.peano_run.specs.declared.answer.Answer.TheVariants.{Limit, NoMemory}
 use Rattle.peano_run.specs.declared.answer.LimitKind.TheVariants.{Lines}
+use Rattle.peano_run.specs.declared.asked.Request.{Request}
 use Rattle.peano_run.specs.declared.course.Course.{Course}
-use Rattle.peano_run.specs.Report.{Moment, GoesOn, most_lines, shown, shown_lines}
+use Rattle.peano_run.specs.Report.{Moment, GoesOn, IsAdded, added_lines, shows_fields, most_lines}
 
--- the moment at which a course stands
-abbrev pub moment_of : Course → Moment
-moment_of c = record { grid = c.grid; field = c.field; text = c.text.items; lines = c.lines }
+-- a course stands at a moment after so many steps: its world is at the moment's grid and field, and it has the report so far
+pub record StandsAt (plan : Plan) (step : ℕ) (c : Course) (m : Moment) : Type 0 where
+  pub at : IsAt (parts_in plan.solver) c.world m.grid m.field step
+  pub solver : c.world.solver ≡ plan.solver
+  pub keys : c.world.keys ≡ m.keys
+  pub text : c.text.items ≡ m.text
+  pub lines : c.lines ≡ m.lines
+
+-- at some moment
+abbrev pub IsUnderWay : Plan → ℕ → Course → Type 0
+IsUnderWay plan step c = (m : Moment) × StandsAt plan step c m
 
 -- a course that a run of a plan has come to in so many steps
-pub record IsCourse (plan : Plan) (step : ℕ) (c : Course) : Type 0 where
-  pub reached : GoesOn plan step (moment_of c)
-  pub grid : IsGrid plan.shape.depth c.grid
-  pub field : IsFieldOn (parts_in plan.solver) c.grid c.field
+pub record IsCourse (r : Request) (plan : Plan) (step : ℕ) (c : Course) : Type 0 where
+  pub moment : Moment
+  pub stands : StandsAt plan step c moment
+  pub reached : GoesOn r plan step moment
 
--- the same grid and field with the block of a step
-pub record AddsBlock (plan : Plan) (step : ℕ) (before after : Course) : Type 0 where
-  pub grid : after.grid ≡ before.grid
-  pub field : after.field ≡ before.field
-  pub text : after.text.items ≡ before.text.items ++ field_block plan.shape.dim step (rows_of before.field)
-  pub lines : after.lines ≡ before.lines + length (rows_of before.field)
-  pub room : after.lines ≤ most_lines
+-- how many lines a report has with those of a field, where fields are shown; or they are too many
+abbrev pub CountsLines : Request → ℕ → States → Result ℕ Answer → Type 0
+CountsLines r lines f (Ok all) = (all ≡ lines + (if shows_fields r.show then length (rows_of f) else 0)) × (all ≤ most_lines)
+CountsLines r lines f (Err answer) = (answer ≡ Limit Lines most_lines) × (most_lines < lines + (if shows_fields r.show then length (rows_of f) else 0))
 
--- why there is no block: with it there are too many lines
-abbrev pub BlockFails : Course → Answer → Type 0
-BlockFails c (Limit Lines number) = (number ≡ most_lines) × (most_lines < c.lines + length (rows_of c.field))
-BlockFails c NoMemory = Unit {0}
-BlockFails c _ = ⊥
+-- a moment with what a step adds to its report
+abbrev pub with_text : Request → Plan → ℕ → Moment → List ℕ → Moment
+with_text r plan step m added = record { keys = m.keys; grid = m.grid; field = m.field; text = m.text ++ added; lines = m.lines + added_lines r plan step m.field }
 
--- the same grid and field with what a step shows of them
-pub record Shows (plan : Plan) (step : ℕ) (before after : Course) : Type 0 where
-  pub grid : after.grid ≡ before.grid
-  pub field : after.field ≡ before.field
-  pub text : after.text.items ≡ before.text.items ++ shown plan step before.field
-  pub lines : after.lines ≡ before.lines + shown_lines plan step before.field
+-- a course after what a step shows of it
+pub record Shows (r : Request) (plan : Plan) (step : ℕ) (before : Moment) (after : Course) : Type 0 where
+  pub added : List ℕ
+  pub shown : IsAdded r plan (cuts_of before.keys) step before.grid before.field added
+  pub stands : StandsAt plan step after (with_text r plan step before added)
   pub room : after.lines ≤ most_lines
 
 -- why a step is not shown: with it there are too many lines
-abbrev pub ShowFails : Plan → ℕ → Course → Answer → Type 0
-ShowFails plan step c (Limit Lines number) = (number ≡ most_lines) × (most_lines < c.lines + shown_lines plan step c.field)
-ShowFails plan step c NoMemory = Unit {0}
-ShowFails plan step c _ = ⊥
+abbrev pub ShowFails : Request → Plan → ℕ → Moment → Answer → Type 0
+ShowFails r plan step m (Limit Lines number) = (number ≡ most_lines) × (most_lines < m.lines + added_lines r plan step m.field)
+ShowFails r plan step m NoMemory = Unit {0}
+ShowFails r plan step m _ = ⊥
+
+-- one of both, by the answer
+abbrev pub IsShowing : Request → Plan → ℕ → Moment → Result Course Answer → Type 0
+IsShowing r plan step m (Ok after) = Shows r plan step m after
+IsShowing r plan step m (Err answer) = ShowFails r plan step m answer

@@ -2,20 +2,21 @@
 use Rattle.std.specs.Prelude.{◌≡◌, ◌⊎◌, ℕ, List}
 use Rattle.peano_run.specs.declared.answer.Answer.{Answer}
 use Rattle.peano_run.specs.declared.answer.Answer.TheVariants.{NoMemory}
+use Rattle.peano_run.specs.declared.asked.Request.{Request}
 use Rattle.peano_run.specs.Report.{IsReport, IsRefused}
 use Rattle.peano_run.specs.Demonstrated.{IsDemoSummary}
 
--- a file has at most one report
+-- a file has at most one report, for so many trees and what is shown
 abbrev pub OneReport : Type 0
-OneReport = (bytes first second : List ℕ) → IsReport bytes first → IsReport bytes second → first ≡ second
+OneReport = (r : Request) (bytes first second : List ℕ) → IsReport r bytes first → IsReport r bytes second → first ≡ second
 
 -- a file that has a report is refused for want of memory alone
 abbrev pub NoneIsBoth : Type 0
-NoneIsBoth = (bytes text : List ℕ) (a : Answer) → IsReport bytes text → IsRefused bytes a → a ≡ NoMemory
+NoneIsBoth = (r : Request) (bytes text : List ℕ) (a : Answer) → IsReport r bytes text → IsRefused r bytes a → a ≡ NoMemory
 
 -- a file is refused by one answer, or for want of memory
 abbrev pub OneRefusal : Type 0
-OneRefusal = (bytes : List ℕ) (a b : Answer) → IsRefused bytes a → IsRefused bytes b → (a ≡ NoMemory) ⊎ (b ≡ NoMemory) ⊎ (a ≡ b)
+OneRefusal = (r : Request) (bytes : List ℕ) (a b : Answer) → IsRefused r bytes a → IsRefused r bytes b → (a ≡ NoMemory) ⊎ (b ≡ NoMemory) ⊎ (a ≡ b)
 
 -- a demonstration has at most one summary
 abbrev pub OneSummary : Type 0

@@ -6,6 +6,7 @@ use Rattle.peano_keys.specs.declared.dim.Dim.{Dim}
 use Rattle.peano_io.specs.Causes.{Rose}
 use Rattle.peano_run.specs.declared.answer.Answer.{Answer}
 use Rattle.peano_run.specs.declared.answer.Answer.TheVariants.{Done, Usage, ReadFault, TooLong, Overflow, WriteFault, NoMemory}
+use Rattle.peano_run.specs.declared.asked.Request.{Request}
 use Rattle.peano_run.specs.declared.ending.Ending.{Ending}
 use Rattle.peano_run.specs.Texts.{text_of}
 use Rattle.peano_run.specs.Report.{IsReport, IsRefused, OfPlan, longest_input}
@@ -37,13 +38,13 @@ WritesText IsDue (WriteFault written) before after = (text : List ℕ) × IsDue 
 WritesText IsDue _ before after = ⊤
 
 -- the report of the input is
-abbrev pub WritesOf : Answer → List ℕ → Option (List ℕ) → Option (List ℕ) → Type 0
-WritesOf answer bytes = WritesText (IsReport bytes) answer
+abbrev pub WritesOf : Request → Answer → List ℕ → Option (List ℕ) → Option (List ℕ) → Type 0
+WritesOf r answer bytes = WritesText (IsReport r bytes) answer
 
 -- so where the source tells what it had
-abbrev pub WritesBy : Answer → Option (List ℕ) → Option (List ℕ) → Option (List ℕ) → Type 0
-WritesBy answer None before after = ⊤
-WritesBy answer (Some bytes) before after = WritesOf answer bytes before after
+abbrev pub WritesBy : Request → Answer → Option (List ℕ) → Option (List ℕ) → Option (List ℕ) → Type 0
+WritesBy r answer None before after = ⊤
+WritesBy r answer (Some bytes) before after = WritesOf r answer bytes before after
 
 -- on every answer but these two nothing was written
 abbrev pub WritesNothing : {K : Type 0} → Answer → K → K → Type 0
@@ -52,17 +53,17 @@ WritesNothing (WriteFault written) before after = ⊤
 WritesNothing _ before after = after ≡ before
 
 -- each refusal of the file itself has its cause in the bytes
-abbrev pub RefusalOf : Answer → List ℕ → Type 0
-RefusalOf Done bytes = ⊤
-RefusalOf Usage bytes = ⊤
-RefusalOf ReadFault bytes = ⊤
-RefusalOf (WriteFault written) bytes = ⊤
-RefusalOf answer bytes = IsRefused bytes answer
+abbrev pub RefusalOf : Request → Answer → List ℕ → Type 0
+RefusalOf r Done bytes = ⊤
+RefusalOf r Usage bytes = ⊤
+RefusalOf r ReadFault bytes = ⊤
+RefusalOf r (WriteFault written) bytes = ⊤
+RefusalOf r answer bytes = IsRefused r bytes answer
 
 -- so where the source tells what it had
-abbrev pub RefusalBy : Answer → Option (List ℕ) → Type 0
-RefusalBy answer None = ⊤
-RefusalBy answer (Some bytes) = RefusalOf answer bytes
+abbrev pub RefusalBy : Request → Answer → Option (List ℕ) → Type 0
+RefusalBy r answer None = ⊤
+RefusalBy r answer (Some bytes) = RefusalOf r answer bytes
 
 -- a read fault comes only where the source's count rose, and nothing else leaves the count risen
 abbrev pub ReadFaultRose : Answer → ℕ → ℕ → Type 0
@@ -87,14 +88,14 @@ NamesIn dim (Overflow step leaf) (Some bytes) = OfPlan bytes (λ plan. plan.shap
 NamesIn dim _ input = ⊤
 
 -- what an ending of a run says of the file: its refusal has its cause, and it names a leaf in the plan's dimension
-abbrev pub EndsBy : Ending → List ℕ → Type 0
-EndsBy ending bytes = IsRefused bytes ending.answer × NamesIn ending.dim ending.answer (Some bytes)
+abbrev pub EndsBy : Request → Ending → List ℕ → Type 0
+EndsBy r ending bytes = IsRefused r bytes ending.answer × NamesIn ending.dim ending.answer (Some bytes)
 
 -- reading and reporting: the report of the input, where the source tells it, or the answer that stands in its place
-abbrev pub Reports : Option (List ℕ) → Option (List ℕ) → Bool → ℕ → ℕ → Result (Vec ℕ Global) Ending → Type 0
-Reports None after ended faults now (Ok text) = IsReadWhole None after ended × (now ≡ faults)
-Reports (Some bytes) after ended faults now (Ok text) = IsReport bytes text.items × IsReadWhole (Some bytes) after ended × (now ≡ faults)
-Reports before after ended faults now (Err ending) = RefusalBy ending.answer before × ReadsBy ending.answer before after ended × ReadFaultRose ending.answer faults now × IsEarly ending.answer × NamesIn ending.dim ending.answer before
+abbrev pub Reports : Request → Option (List ℕ) → Option (List ℕ) → Bool → ℕ → ℕ → Result (Vec ℕ Global) Ending → Type 0
+Reports r None after ended faults now (Ok text) = IsReadWhole None after ended × (now ≡ faults)
+Reports r (Some bytes) after ended faults now (Ok text) = IsReport r bytes text.items × IsReadWhole (Some bytes) after ended × (now ≡ faults)
+Reports r before after ended faults now (Err ending) = RefusalBy r ending.answer before × ReadsBy ending.answer before after ended × ReadFaultRose ending.answer faults now × IsEarly ending.answer × NamesIn ending.dim ending.answer before
 
 -- a text was written whole, or in part where the count of faults rose
 pub data Tells (text : List ℕ) (before after : Option (List ℕ)) (faults now : ℕ) : Type 0 where

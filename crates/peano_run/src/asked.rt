@@ -1,30 +1,53 @@
 //! What the words of a command line ask for, as far as it is served.
-ghost use Rattle.std.specs.Prelude.{◌≡◌, ◌↔◌, IfOk, IsTrue, Err, map, string_bytes};
-ghost use Rattle.peano_run.specs.Asked.{IsServed, Asks, AreRefused};
+ghost use Rattle.std.specs.Prelude.{Err, IfOk, map, string_bytes, ◌≡◌};
+ghost use Rattle.peano_run.specs.Asked.{AsksNow, Asks, AreRefused, HasTrees};
 
 use command_line::{ShowWhat, Words, WordsFault, read_words};
 use std::alloc::Global;
 
-// Whether settings are served: one tree, no helpers, and the fields shown.
-fn is_served(words: &Words) -> bool
-    ensures { IsTrue result ↔ IsServed words.now }
-{
-    words.trees == 1 && words.workers == 0 && words.show == ShowWhat::Fields
+/// How a file is run: by so many trees, 1 to 64, and what is shown of each printed step.
+#[derive(Clone, Copy, Debug, PartialEq, Eq)]
+pub struct Request {
+    pub trees: u32,
+    pub show: ShowWhat,
 }
 
-// The number of the demonstration that the words ask for, none where they ask for the report of a file.
-pub(crate) fn asked(alloc: Global, words: &[String]) -> Result<Option<u64>, WordsFault>
+/// What is asked for: the report of a file, or the demonstration of a number.
+#[derive(Clone, Copy, Debug, PartialEq, Eq)]
+pub enum Asked {
+    File(Request),
+    Demo(u64),
+}
+
+// What settings ask for, if it is served: helpers are not yet, nor demonstrations by more trees than one.
+fn asked_by(words: &Words) -> Option<Asked>
+    ensures { AsksNow words.now result }
+{
+    if words.workers > 0 {
+        return None;
+    }
+    let Some(n) = words.demo else {
+        return Some(Asked::File(Request {
+            trees: words.trees,
+            show: words.show,
+        }));
+    };
+    if words.trees == 1 {
+        Some(Asked::Demo(n))
+    } else {
+        None
+    }
+}
+
+// What the words ask for, if it is served.
+pub(crate) fn asked_in(alloc: Global, words: &[String]) -> Result<Asked, WordsFault>
     ensures ok { IfOk result (Asks (map string_bytes words.now)) }
+    ensures trees { IfOk result HasTrees }
     ensures usage { result ≡ Err WordsFault.Usage → AreRefused (map string_bytes words.now) }
 {
-    match read_words(alloc, words) {
-        Ok(settings) => {
-            if is_served(&settings) {
-                Ok(settings.demo)
-            } else {
-                Err(WordsFault::Usage)
-            }
-        }
-        Err(fault) => Err(fault),
+    let settings = read_words(alloc, words)?;
+    match asked_by(&settings) {
+        Some(asked) => Ok(asked),
+        None => Err(WordsFault::Usage),
     }
 }

@@ -14,5 +14,6 @@ mod text;
 mod top;
 
 pub use answer::{Answer, LimitKind, Outcome};
+pub use asked::{Asked, Request};
 pub use text::{FixedText, refusal_text};
 pub use top::run;

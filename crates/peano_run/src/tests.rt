@@ -152,10 +152,10 @@ fn words_are_refused_before_the_input_is_read(rt: HostRuntime) -> Result<(), Fai
         &[""],
         &["--"],
         &["--trees", "0"],
-        &["--trees", "2"],
+        &["--trees=65"],
         &["--workers=1"],
-        &["--show", "traffic"],
-        &["--show=all"],
+        &["--show", "some"],
+        &["--demo", "1", "--trees", "2"],
         &["--demo", "1", "--show", "fields"],
         &["--demo", "10000000000000000000"],
     ];
@@ -182,6 +182,32 @@ fn words_that_ask_for_the_report(rt: HostRuntime) -> Result<(), Fail> {
         assert_eq!(rt; left.out.bytes(), "step 0 leaves 1\n0 0 0 7\n".as_bytes());
         assert!(rt; left.outcome.answer == Answer::Done && left.err.bytes().is_empty());
     }
+    Ok(())
+}
+
+#[test]
+fn words_that_ask_for_trees_and_traffic(rt: HostRuntime) -> Result<(), Fail> {
+    let fields =
+        "step 1 leaves 9\n1 0 0 0\n1 0 1 10\n1 0 2 0\n1 1 0 10\n1 1 1 60\n1 1 2 10\n1 2 0 0\n1 2 1 10\n1 2 2 0\n";
+    let alone =
+        "traffic 1 trees 1\ntree 0 cells 10 stored 20 pushes 20 hanging 0 enclave 9 skeleton 0 sent 0\n";
+    let halves =
+        "traffic 1 trees 2\ntree 0 cells 5 stored 14 pushes 6 hanging 0 enclave 0 skeleton 4 sent 9\ntree 1 cells 6 stored 15 pushes 9 hanging 0 enclave 1 skeleton 4 sent 9\n";
+    let table: [(&[&str], &str, &str); 5] = [
+        (&["--trees", "2"], fields, ""),
+        (&["--trees=64", "--show", "fields"], fields, ""),
+        (&["--show", "traffic"], "", alone),
+        (&["--trees", "2", "--show=traffic"], "", halves),
+        (&["--show", "all", "--trees=2"], fields, halves),
+    ];
+    for (words, field, traffic) in table {
+        let left = run_with(rt.alloc(), words, PULSE, NOWHERE)?;
+        let want = format!(in rt.alloc(); "{field}{traffic}")?;
+        assert_eq!(rt; left.out.bytes(), want.as_bytes());
+        assert!(rt; left.outcome.answer == Answer::Done && left.err.bytes().is_empty());
+    }
+    let many = run_with(rt.alloc(), &["--show", "traffic"], TOO_MANY_LINES, NOWHERE)?;
+    assert!(rt; many.outcome.answer == Answer::Done && many.err.bytes().is_empty());
     Ok(())
 }
 

@@ -1,12 +1,15 @@
 //! The top call.
-ghost use Rattle.std.specs.Prelude.{◌≡◌, ◌≢◌, ◌⊎◌, ℕ, Option, None, IsSome, false, map, string_bytes};
+ghost use Rattle.std.specs.Prelude.{◌≡◌, ◌≢◌, ◌⊎◌, false, map, string_bytes};
 ghost use Rattle.peano_run.specs.Texts.{status_of};
-ghost use Rattle.peano_run.specs.Asked.{Asks, AreRefused};
+ghost use Rattle.peano_run.specs.declared.asked.Asked.{Asked};
+ghost use Rattle.peano_run.specs.declared.asked.Asked.TheVariants.{File};
+ghost use Rattle.peano_run.specs.declared.asked.Request.{Request};
+ghost use Rattle.peano_run.specs.Asked.{Asks, AreRefused, AskForNoFile, HasTrees, IsRequest};
 ghost use Rattle.peano_run.specs.Run.{WritesNothing, ReadFaultRose, WriteFaultRose, Reports, NamesIn, Tells, TellsAnswer};
 ghost use Rattle.peano_run.specs.Served.{ReportsFile, Serves};
 
 use crate::answer::{Answer, Outcome};
-use crate::asked::asked;
+use crate::asked::{Asked, Request, asked_in};
 use crate::demo::demonstrated;
 use crate::ending::Ending;
 use crate::report::report;
@@ -19,12 +22,13 @@ use std::alloc::Global;
 const LONGEST_INPUT: u64 = 1_048_576;
 
 // Reads the source to its end and makes the report of what it had.
-fn report_of<S: Source>(alloc: Global, input: &mut S) -> Result<Vec<u8>, Ending>
-    requires { S.ended input.old ≡ false }
-    ensures { Reports (S.left input.old) (S.left input.new) (S.ended input.new) (S.faults input.old) (S.faults input.new) result }
+fn report_of<S: Source>(alloc: Global, input: &mut S, request: Request) -> Result<Vec<u8>, Ending>
+    requires fresh { S.ended input.old ≡ false }
+    requires request { IsRequest request }
+    ensures { Reports request (S.left input.old) (S.left input.new) (S.ended input.new) (S.faults input.old) (S.faults input.new) result }
 {
     match read_all(alloc, input, LONGEST_INPUT) {
-        Ok(bytes) => report(alloc, bytes.as_slice()),
+        Ok(bytes) => report(alloc, bytes.as_slice(), request),
         Err(ReadAllFault::ReadFault) => Err(Ending::of(Answer::ReadFault)),
         Err(ReadAllFault::TooLong) => Err(Ending::of(Answer::TooLong)),
         Err(ReadAllFault::NoMemory) => Err(Ending::of(Answer::NoMemory)),
@@ -32,16 +36,22 @@ fn report_of<S: Source>(alloc: Global, input: &mut S) -> Result<Vec<u8>, Ending>
 }
 
 // Reads the input, and writes its report.
-fn reported<S: Source, K: Sink>(alloc: Global, input: &mut S, out: &mut K) -> Ending
-    requires { S.ended input.old ≡ false }
+fn reported<S: Source, K: Sink>(
+    alloc: Global,
+    request: Request,
+    input: &mut S,
+    out: &mut K,
+) -> Ending
+    requires fresh { S.ended input.old ≡ false }
+    requires request { IsRequest request }
     ensures served { result.answer ≢ Answer.Usage }
-    ensures reports { ReportsFile result.answer (S.left input.old) (S.left input.new) (S.ended input.new) (K.taken out.old) (K.taken out.new) }
+    ensures reports { ReportsFile request result.answer (S.left input.old) (S.left input.new) (S.ended input.new) (K.taken out.old) (K.taken out.new) }
     ensures nothing { WritesNothing result.answer out.old out.new }
     ensures read_fault { ReadFaultRose result.answer (S.faults input.old) (S.faults input.new) }
     ensures write_fault { WriteFaultRose result.answer (K.faults out.old) (K.faults out.new) }
     ensures named { NamesIn result.dim result.answer (S.left input.old) }
 {
-    let text = match report_of(alloc, input) {
+    let text = match report_of(alloc, input, request) {
         Ok(text) => text,
         Err(ending) => return ending,
     };
@@ -54,15 +64,11 @@ fn reported<S: Source, K: Sink>(alloc: Global, input: &mut S, out: &mut K) -> En
 }
 
 // Does what is asked for: the demonstration of a number, or the report of the input.
-fn served<S: Source, K: Sink>(
-    alloc: Global,
-    asked: Option<u64>,
-    input: &mut S,
-    out: &mut K,
-) -> Ending
-    requires { S.ended input.old ≡ false }
+fn served<S: Source, K: Sink>(alloc: Global, asked: Asked, input: &mut S, out: &mut K) -> Ending
+    requires fresh { S.ended input.old ≡ false }
+    requires trees { HasTrees asked }
     ensures served { result.answer ≢ Answer.Usage }
-    ensures unread { IsSome asked → input.new ≡ input.old }
+    ensures unread { ((r : Request) → asked ≢ File r) → input.new ≡ input.old }
     ensures serves { Serves asked result.answer (S.left input.old) (S.left input.new) (S.ended input.new) (K.taken out.old) (K.taken out.new) }
     ensures nothing { WritesNothing result.answer out.old out.new }
     ensures read_fault { ReadFaultRose result.answer (S.faults input.old) (S.faults input.new) }
@@ -70,8 +76,8 @@ fn served<S: Source, K: Sink>(
     ensures named { NamesIn result.dim result.answer (S.left input.old) }
 {
     match asked {
-        Some(n) => demonstrated(alloc, n, out),
-        None => reported(alloc, input, out),
+        Asked::Demo(n) => demonstrated(alloc, n, out),
+        Asked::File(request) => reported(alloc, request, input, out),
     }
 }
 
@@ -81,15 +87,15 @@ fn ended<S: Source, K: Sink>(alloc: Global, words: &[String], input: &mut S, out
     ensures usage { result.answer ≡ Answer.Usage → AreRefused (map string_bytes words.now) }
     ensures refused { AreRefused (map string_bytes words.now)
         → (result.answer ≡ Answer.Usage) ⊎ (result.answer ≡ Answer.NoMemory) }
-    ensures unread { ¬ Asks (map string_bytes words.now) None → input.new ≡ input.old }
-    ensures serves { (asked : Option ℕ) → Asks (map string_bytes words.now) asked
+    ensures unread { AskForNoFile (map string_bytes words.now) → input.new ≡ input.old }
+    ensures serves { (asked : Asked) → Asks (map string_bytes words.now) asked
         → Serves asked result.answer (S.left input.old) (S.left input.new) (S.ended input.new) (K.taken out.old) (K.taken out.new) }
     ensures nothing { WritesNothing result.answer out.old out.new }
     ensures read_fault { ReadFaultRose result.answer (S.faults input.old) (S.faults input.new) }
     ensures write_fault { WriteFaultRose result.answer (K.faults out.old) (K.faults out.new) }
     ensures named { NamesIn result.dim result.answer (S.left input.old) }
 {
-    match asked(alloc, words) {
+    match asked_in(alloc, words) {
         Ok(asked) => served(alloc, asked, input, out),
         Err(WordsFault::Usage) => Ending::of(Answer::Usage),
         Err(WordsFault::NoMemory) => Ending::of(Answer::NoMemory),
@@ -108,7 +114,7 @@ fn tell<E: Sink>(err: &mut E, text: &[u8])
 
 /// Reads a file from `input`, takes the steps that it asks for, and writes the report of its printed steps to `out`; or, with
 /// `--demo N`, takes the steps of a demonstration and writes its summary. `words` are those of the command line without the
-/// program's name. Those that mean nothing are refused, and so are, as yet, more trees than one, helpers, and traffic.
+/// program's name. Those that mean nothing are refused, and so are, as yet, helpers, and demonstrations by more trees than one.
 /// The text of a refusal goes to `err`. Nothing is written before the last step.
 pub fn run<S: Source, K: Sink, E: Sink>(
     alloc: Global,
@@ -125,12 +131,12 @@ pub fn run<S: Source, K: Sink, E: Sink>(
         → (result.answer ≡ Answer.Usage) ⊎ (result.answer ≡ Answer.NoMemory) }
 
     // Nothing is read where they ask for no file: where they are refused, or ask for a demonstration.
-    ensures unread { ¬ Asks (map string_bytes words.now) None → input.new ≡ input.old }
+    ensures unread { AskForNoFile (map string_bytes words.now) → input.new ≡ input.old }
 
     // A file: no byte is read past the end that the source told, nor past the first that is too many; at `Done` `out` took
     // exactly the report, at a write fault exactly its first bytes; each refusal has its cause in the bytes. A demonstration:
     // so with its summary, and no refusal comes but want of memory.
-    ensures serves { (asked : Option ℕ) → Asks (map string_bytes words.now) asked
+    ensures serves { (asked : Asked) → Asks (map string_bytes words.now) asked
         → Serves asked result.answer (S.left input.old) (S.left input.new) (S.ended input.new) (K.taken out.old) (K.taken out.new) }
     ensures nothing { WritesNothing result.answer out.old out.new }
 

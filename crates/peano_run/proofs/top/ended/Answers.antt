@@ -1,4 +1,5 @@
-use Rattle.std.proofs.Common.{ℕ, Option, map, string_bytes, refl, subst}
+use Rattle.std.proofs.Common.{ℕ, map, string_bytes, refl, subst}
+use Rattle.peano_run.specs.declared.asked.Asked.{Asked}
 use Rattle.peano_run.specs.Served.{Serves}
 use Rattle.peano_run.proofs.AskedFor.{one_asked}
 use Rattle.peano_run.proofs.top.ended.Goals as goal
@@ -7,7 +8,7 @@ pub returns-in-Ok-clause-serves : goal.returns-in-Ok-clause-serves
 returns-in-Ok-clause-serves g c asked asks =
     let source = g.S.Source in
     let taken = g.K.Sink.taken in
-    subst (λ (a : Option ℕ). Serves a c.served.result.answer (source.left c.args.input.now) (source.left c.served.new.input) (source.ended c.served.new.input) (taken c.args.out.now) (taken c.served.new.out))
+    subst (λ (a : Asked). Serves a c.served.result.answer (source.left c.args.input.now) (source.left c.served.new.input) (source.ended c.served.new.input) (taken c.args.out.now) (taken c.served.new.out))
     (one_asked (map string_bytes c.args.words.now) c.in-Ok.asked asked c.in-Ok.ensures.ok asks) c.served.ensures.serves
 
 pub returns-in-Err-Usage-clause-usage : goal.returns-in-Err-Usage-clause-usage
