@@ -1,5 +1,5 @@
--- A field on a grid has as many rows as the grid has leaves.
-use Rattle.std.proofs.Common.{◌≡◌, ⊎_elim, ℕ, ◌-◌, ◌*◌, ◌^◌, ◌<◌, ◌||◌, ◌&&◌, Bool, true, false, T, refl, sym, ap, ◌∙◌, arith, List, [], ◌∷◌, length, map}
+-- The leaves of a grid are its cells without the refined ones, and the rows of a field are as many.
+use Rattle.std.proofs.Common.{◌≡◌, ◌↔◌, ⊎_elim, ℕ, ◌-◌, ◌*◌, ◌^◌, ◌<◌, ◌||◌, ◌&&◌, Bool, true, false, T, refl, sym, ap, ◌∙◌, arith, List, [], ◌∷◌, length, map}
 use Rattle.std.specs.FinMap as fin
 use Rattle.std.specs.FinMap.{is_sorted}
 use Rattle.std.specs.FinMap.Entries.{below_all}
@@ -20,7 +20,7 @@ use Rattle.peano_keys.specs.Field.{States}
 use Rattle.solver_api.specs.Step.{IsLeafOf}
 use Rattle.spacetree.specs.Counts.{cells_for, cells_of, leaves_of}
 use Rattle.spacetree.specs.Digits.{digits_at, number_in}
-use Rattle.spacetree.specs.Fields.{IsFieldOn, row_of, rows_of}
+use Rattle.spacetree.specs.Fields.{row_of}
 use Rattle.spacetree.specs.Leaves.{is_among}
 use Rattle.spacetree.proofs.CellMaps.{cells_total, exact_cells}
 use Rattle.spacetree.proofs.Children.{child_by_number, number_bound, root_is, child_cell, third_digit}
@@ -29,7 +29,7 @@ use Rattle.hanging_nodes.proofs.TwoGrids.{refined_there}
 use Rattle.step_world.specs.Counts.{EachOnce}
 use Rattle.step_world.proofs.Counts.{with_all, has_all, many, false_by}
 use Rattle.step_world.proofs.Exists.{or_left, or_after, or_one, true_told}
-use Rattle.step_driver.specs.LeafCounts.{RowsAreLeaves}
+use Rattle.step_driver.specs.LeafCounts.{LeavesAreCounted, RowsAreLeaves}
 use Rattle.step_driver.proofs.Families.{in_list, child, digits_are, families, family_cases, family_root, family_has, family_many}
 
 both_hold : (a b : Bool) → T (a && b) → T a × T b
@@ -64,26 +64,19 @@ keys_once f = once_in (fin.entries f) (fin.entries_sorted f)
 of_items : (s : Cells) → with_all set.empty (set.items s) ≡ s
 of_items s = set.same_set cells_total exact_cells _ _ (λ q. in_list (set.items s) q ∙ sym (set.contains-items s q))
 
-module _ (parts : ℕ) (g : Spacetree) (f : States) (grid : IsGrid 12 g) (on : IsFieldOn parts g f) where
-  -- the leaves are the keys of the field
-  leaf_among : (c : CellKey) → IsLeafOf g c → is_among (fin.keys f) c ≡ true
-  leaf_among c leaf = sym (fin.contains_key-keys f c) ∙ (on.leaves c).1 leaf
-
-  among_leaf : (c : CellKey) → is_among (fin.keys f) c ≡ true → IsLeafOf g c
-  among_leaf c h = (on.leaves c).0 (fin.contains_key-keys f c ∙ h)
-
+module _ (g : Spacetree) (grid : IsGrid 12 g) (leaves : List CellKey) (members : (c : CellKey) → (is_among leaves c ≡ true) ↔ IsLeafOf g c) (once : EachOnce leaves) where
   -- the refined cells and the leaves,
   abbrev both_kinds : Cells
-  both_kinds = with_all g.refined (fin.keys f)
+  both_kinds = with_all g.refined leaves
 
   -- and the root and the children of the refined ones
   abbrev all_families : Cells
   all_families = families g.dim (set.items g.refined)
 
   in_kinds : (c : CellKey) → IsCell g.dim c → has_cell g c ≡ true → set.contains both_kinds c ≡ true
-  in_kinds c cell there = has_all g.refined (fin.keys f) c ∙ ⊎_elim
-      (λ refined. or_left (is_refined g c) (is_among (fin.keys f) c) refined)
-      (λ apart. or_after (is_refined g c) (is_among (fin.keys f) c) (leaf_among c (leaf_from g c cell there (false_by (is_refined g c) apart))))
+  in_kinds c cell there = has_all g.refined leaves c ∙ ⊎_elim
+      (λ refined. or_left (is_refined g c) (is_among leaves c) refined)
+      (λ apart. or_after (is_refined g c) (is_among leaves c) ((members c).1 (leaf_from g c cell there (false_by (is_refined g c) apart))))
       (true_told (is_refined g c))
 
   in_families : (c : CellKey) → IsCell g.dim c → has_cell g c ≡ true → set.contains all_families c ≡ true
@@ -98,8 +91,8 @@ module _ (parts : ℕ) (g : Spacetree) (f : States) (grid : IsGrid 12 g) (on : I
   from_kinds : (c : CellKey) → set.contains both_kinds c ≡ true → set.contains all_families c ≡ true
   from_kinds c h = ⊎_elim
       (λ refined. in_families c (grid.cells c refined) (refined_there 12 g c grid refined))
-      (λ key. let leaf = among_leaf c key in in_families c leaf.cell (leaf_there g c leaf))
-      (or_one (is_refined g c) (is_among (fin.keys f) c) (sym (has_all g.refined (fin.keys f) c) ∙ h))
+      (λ among. let leaf = (members c).0 among in in_families c leaf.cell (leaf_there g c leaf))
+      (or_one (is_refined g c) (is_among leaves c) (sym (has_all g.refined leaves c) ∙ h))
 
   listed_refined : (p : CellKey) → is_among (set.items g.refined) p ≡ true → is_refined g p ≡ true
   listed_refined p h = set.contains-items g.refined p ∙ h
@@ -117,18 +110,25 @@ module _ (parts : ℕ) (g : Spacetree) (f : States) (grid : IsGrid 12 g) (on : I
       ap (set.contains both_kinds) r.4 ∙ in_kinds (child g.dim r.0 r.1) (child_cell g.dim r.0 (digits_at g.dim r.1) cell (grid.levels r.0 refined) d) (child_there g r.0 (digits_at g.dim r.1) cell.shape d.first d.second (third_digit g.dim (digits_at g.dim r.1) d) refined))
       (family_cases g.dim (set.items g.refined) c h)
 
+  -- are the same cells: all of the grid
   same_cells : both_kinds ≡ all_families
   same_cells = set.same_set cells_total exact_cells both_kinds all_families (λ c. both_ways (set.contains both_kinds c) (set.contains all_families c) (from_kinds c) (from_families c))
 
-  pub as_many_rows : length (rows_of f) ≡ leaves_of g
-  as_many_rows =
-      let kinds = many g.refined (fin.keys f) (keys_once f) (λ c key refined. not_leaf g c refined (among_leaf c key)) in
+  as_many : length leaves ≡ leaves_of g
+  as_many =
+      let kinds = many g.refined leaves once (λ c among refined. not_leaf g c refined ((members c).0 among)) in
       let all = family_many g.dim (set.items g.refined) (λ p h. (grid.cells p (listed_refined p h)).shape) in
       let size = ap (λ (s : Cells). 3 ^ axes g.dim * set.len s) (of_items g.refined) in
-      omega (arith, kinds, all, size, ap set.len same_cells, length-map (fin.entries f) row_of, length-map (fin.entries f) (λ e. e.0))
+      omega (arith, kinds, all, size, ap set.len same_cells)
 
+pub leaves_are_counted : LeavesAreCounted
+leaves_are_counted g n grid counted = sym counted.count ∙ as_many g grid counted.cells counted.members counted.once
+
+-- the keys of a field are the leaves
 pub rows_are_leaves : RowsAreLeaves
-rows_are_leaves parts g f grid on = as_many_rows parts g f grid on
+rows_are_leaves parts g f grid on =
+    let keys = as_many g grid (fin.keys f) (λ c. ((λ h. (on.leaves c).0 (fin.contains_key-keys f c ∙ h)), (λ leaf. sym (fin.contains_key-keys f c) ∙ (on.leaves c).1 leaf))) (keys_once f) in
+    omega (arith, keys, length-map (fin.entries f) row_of, length-map (fin.entries f) (λ e. e.0))
 
 -- what is told of a number of cells is so of the grid that has so many
 pub leaves_told : (g : Spacetree) (dim : Dim) (cells leaves : ℕ) → cells ≡ cells_of g → g.dim ≡ dim → ((refined : ℕ) → cells ≡ cells_for dim refined → leaves ≡ cells - refined) → leaves ≡ leaves_of g

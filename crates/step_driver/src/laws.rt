@@ -1,6 +1,6 @@
 //! Laws of worlds.
 ghost use Rattle.step_driver.specs.Worlds.{WorldIsAtOne, WorldStands};
-ghost use Rattle.step_driver.specs.LeafCounts.{RowsAreLeaves};
+ghost use Rattle.step_driver.specs.LeafCounts.{LeavesAreCounted, RowsAreLeaves};
 ghost use Rattle.step_driver.specs.Showing.{OneTraffic};
 
 use solver_api::Solver;
@@ -18,6 +18,11 @@ pub fn world_stands<S: Solver>()
 /// The traffic of all trees is one list.
 pub fn one_traffic()
     ensures { OneTraffic }
+{}
+
+/// The leaves of a grid are as many as its cells without the refined ones.
+pub fn leaves_are_counted()
+    ensures { LeavesAreCounted }
 {}
 
 /// A field has as many rows as its grid has leaves.

@@ -1,13 +1,13 @@
 //! The world.
-ghost use Rattle.std.specs.Prelude.{◌≡◌, ℕ, ◌<◌, ◌≤◌, true, IfOk, length};
+ghost use Rattle.std.specs.Prelude.{◌≡◌, ◌<◌, ◌≤◌, true, IfOk, length};
 ghost use Rattle.peano_keys.specs.Grid.{IsGrid, Spacetree};
 ghost use Rattle.peano_keys.specs.Field.{States};
-ghost use Rattle.spacetree.specs.Counts.{leaves_of};
-ghost use Rattle.spacetree.specs.Fields.{IsFieldOn, rows_of};
+ghost use Rattle.spacetree.specs.Fields.{IsFieldOn};
 ghost use Rattle.curve_cuts.specs.Keys.{cuts_of};
 ghost use Rattle.step_world.specs.Notes.{note_raised, by_trees};
 ghost use Rattle.step_driver.specs.Notes.{sizes_of};
 ghost use Rattle.step_driver.specs.Worlds.{IsAt};
+ghost use Rattle.step_driver.specs.LeafCounts.{IsLeafCount, IsRowCount};
 ghost use Rattle.step_driver.specs.Starts.{AreFirstKeys};
 ghost use Rattle.step_driver.specs.Advances.{IsAdvanced};
 ghost use Rattle.step_driver.specs.Showing.{Shows};
@@ -169,8 +169,8 @@ impl<S: Solver> World<S> {
 
     /// How many leaves the grid has, each of which is a row of its field. Of a world that is not live it tells nothing.
     pub fn leaf_count(&self) -> u64
-        ensures leaves { (parts : ℕ) (g : Spacetree) (f : States) (step : ℕ) → IsAt parts self.now g f step → result ≡ leaves_of g }
-        ensures rows { (parts : ℕ) (g : Spacetree) (f : States) (step : ℕ) → IsAt parts self.now g f step → result ≡ length (rows_of f) }
+        ensures leaves { IsLeafCount self.now result }
+        ensures rows { IsRowCount self.now result }
     {
         leaves_among(self.cells, self.keys.dim())
     }
