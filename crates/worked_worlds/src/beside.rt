@@ -1,0 +1,131 @@
+//! Worlds beside the plain evaluator, step by step.
+ghost use Rattle.std.specs.Prelude.{◌≡◌, ◌≤◌, true, IfOk};
+ghost use Rattle.peano_keys.specs.Grid.{IsGrid};
+ghost use Rattle.volume_solver.specs.Any.{parts_in, deepest_in};
+ghost use Rattle.spacetree.specs.Fields.{IsFieldOn};
+
+use crate::opening::{all_started, opened, plan_of};
+use spacetree::{EvalFault, Field, Grid, Row, evaluate};
+use std::alloc::{AllocError, Global};
+use std::process::Abort;
+use step_driver::World;
+use volume_solver::AnySolver;
+
+// A world takes a step, or is refused it.
+pub(crate) fn advance(
+    rt: &impl Abort,
+    alloc: Global,
+    world: &mut World<AnySolver>,
+) -> Result<(), EvalFault> {
+    assert!(rt; world.is_live());
+    assert!(rt; world.step() < 10_000);
+    world.advance(alloc)
+}
+
+// A world is live after a step, has as many cells as a grid, and shows these rows.
+fn expect_at(
+    rt: &impl Abort,
+    alloc: Global,
+    world: &mut World<AnySolver>,
+    grid: &Grid,
+    rows: &[Row],
+    step: u32,
+) -> Result<(), AllocError> {
+    let trees = world.trees();
+    assert!(rt; world.is_live(), "{trees} trees, step {step}");
+    let shown = world.show(alloc)?;
+    assert!(rt; shown.rows.as_slice() == rows, "{trees} trees, step {step}");
+    assert_eq!(rt; shown.step, step);
+    assert_eq!(rt; shown.traffic.len() as u64, u64::from(trees));
+    assert_eq!(rt; world.cell_count(), grid.cell_count());
+    assert!(rt; world.is_live() && world.step() == step);
+    Ok(())
+}
+
+// Each world is where the evaluation is after a step.
+fn expect_all_at(
+    rt: &impl Abort,
+    alloc: Global,
+    worlds: &mut [World<AnySolver>],
+    grid: &Grid,
+    field: &Field,
+    step: u32,
+) -> Result<(), AllocError> {
+    let rows = field.rows(alloc)?;
+    for world in worlds.iter_mut() {
+        expect_at(rt, alloc, world, grid, rows.as_slice(), step)?;
+    }
+    Ok(())
+}
+
+// Each world takes a step.
+fn advance_all(
+    rt: &impl Abort,
+    alloc: Global,
+    worlds: &mut [World<AnySolver>],
+) -> Result<(), EvalFault> {
+    for world in worlds.iter_mut() {
+        advance(rt, alloc, world)?;
+    }
+    Ok(())
+}
+
+// Each world is refused as the evaluation is, stays at its step, and is not live.
+fn expect_refused(
+    rt: &impl Abort,
+    alloc: Global,
+    worlds: &mut [World<AnySolver>],
+    fault: EvalFault,
+    step: u32,
+) {
+    for world in worlds.iter_mut() {
+        assert_eq!(rt;
+            advance(rt, alloc, world),
+            Err(fault),
+            "{} trees",
+            world.trees()
+        );
+        assert!(rt; !world.is_live());
+        assert_eq!(rt; world.step().saturating_add(1), step);
+    }
+}
+
+// The refusal of one step, as that of a step of a run.
+fn at_step(fault: EvalFault, step: u32) -> EvalFault {
+    match fault {
+        EvalFault::Overflow { key, .. } => EvalFault::Overflow { step, key },
+        EvalFault::Crowded { cells, .. } => EvalFault::Crowded { step, cells },
+        EvalFault::NoMemory => EvalFault::NoMemory,
+    }
+}
+
+// Worlds of so many trees each, and the evaluator, take the steps of a file, or are refused. After each step the worlds
+// are where the evaluation is. The answer is how many leaves there are at first and in the end.
+pub(crate) fn compare(
+    rt: &impl Abort,
+    alloc: Global,
+    file: &str,
+    trees: &[u32],
+) -> Result<(u64, u64), EvalFault> {
+    let plan = plan_of(rt, alloc, file)?;
+    let (mut grid, mut field) = opened(rt, alloc, &plan)?;
+    let first = grid.leaf_count();
+    let mut worlds = all_started(rt, alloc, &plan, &grid, &field, trees)?;
+    expect_all_at(rt, alloc, &mut worlds, &grid, &field, 0)?;
+    for step in 1..=plan.steps {
+        match evaluate(alloc, &grid, &field, &plan.solver, 1) {
+            Ok((next, after)) => {
+                grid = next;
+                field = after;
+            }
+            Err(fault) => {
+                let fault = at_step(fault, step);
+                expect_refused(rt, alloc, &mut worlds, fault, step);
+                return Err(fault);
+            }
+        }
+        advance_all(rt, alloc, &mut worlds)?;
+        expect_all_at(rt, alloc, &mut worlds, &grid, &field, step)?;
+    }
+    Ok((first, grid.leaf_count()))
+}

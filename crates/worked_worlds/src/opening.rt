@@ -1,0 +1,83 @@
+//! What files open with: their plans, their grids and fields, and the worlds that stand at these.
+ghost use Rattle.std.specs.Prelude.{◌≤◌, IfOk};
+ghost use Rattle.peano_keys.specs.Grid.{IsGrid};
+ghost use Rattle.volume_solver.specs.Any.{parts_in};
+ghost use Rattle.spacetree.specs.Fields.{IsFieldOn};
+ghost use Rattle.grid_file.specs.Valid.{IsPlan};
+
+use grid_file::{Plan, PlanFault, read_plan};
+use solver_api::Solver;
+use spacetree::{BuildFault, Field, Grid};
+use std::alloc::{AllocError, Global};
+use std::process::Abort;
+use step_driver::World;
+use volume_solver::AnySolver;
+
+// The plan of a file.
+pub(crate) fn plan_of(rt: &impl Abort, alloc: Global, file: &str) -> Result<Plan, AllocError>
+    ensures { IfOk result IsPlan }
+{
+    match read_plan(alloc, file.as_bytes()) {
+        Ok(plan) => Ok(plan),
+        Err(PlanFault::Malformed(fault)) => panic!(rt; "{fault:?} in {file}"),
+        Err(PlanFault::NoMemory) => Err(AllocError),
+    }
+}
+
+// The grid and the field of a plan.
+pub(crate) fn opened(
+    rt: &impl Abort,
+    alloc: Global,
+    plan: &Plan,
+) -> Result<(Grid, Field), AllocError>
+    requires { IsPlan plan.now }
+    ensures grid { IfOk result (λ r. IsGrid plan.now.shape.depth r.0) }
+    ensures served { IfOk result (λ r. IsGrid 12 r.0) }
+    ensures field { IfOk result (λ r. IsFieldOn (parts_in plan.now.solver) r.0 r.1) }
+{
+    let grid = match Grid::build(alloc, &plan.shape) {
+        Ok(grid) => grid,
+        Err(BuildFault::TooMany) => panic!(rt; "too many cells"),
+        Err(BuildFault::NoMemory) => return Err(AllocError),
+    };
+    let field = Field::opening(alloc, &grid, plan.fills.as_slice(), plan.solver.parts())?;
+    Ok((grid, field))
+}
+
+// A world of so many trees at the opening of a plan.
+pub(crate) fn started(
+    rt: &impl Abort,
+    alloc: Global,
+    plan: &Plan,
+    grid: &Grid,
+    field: &Field,
+    trees: u32,
+) -> Result<World<AnySolver>, AllocError>
+    requires plan { IsPlan plan.now }
+    requires grid { IsGrid plan.now.shape.depth grid.now }
+    requires field { IsFieldOn (parts_in plan.now.solver) grid.now field.now }
+{
+    assert!(rt; 1 <= trees && trees <= 64);
+    World::start(alloc, plan.shape.depth, grid, field, plan.solver, trees)
+}
+
+// Worlds of so many trees each.
+pub(crate) fn all_started(
+    rt: &impl Abort,
+    alloc: Global,
+    plan: &Plan,
+    grid: &Grid,
+    field: &Field,
+    trees: &[u32],
+) -> Result<Vec<World<AnySolver>>, AllocError>
+    requires plan { IsPlan plan.now }
+    requires grid { IsGrid plan.now.shape.depth grid.now }
+    requires field { IsFieldOn (parts_in plan.now.solver) grid.now field.now }
+{
+    let mut worlds = Vec::new(alloc);
+    for count in trees {
+        let world = started(rt, alloc, plan, grid, field, *count)?;
+        worlds.push(world)?;
+    }
+    Ok(worlds)
+}

@@ -1,0 +1,66 @@
+//! Worked files by several numbers of trees, against the plain evaluator.
+use crate::beside::compare;
+use crate::files::*;
+use peano_keys::CellKey;
+use spacetree::EvalFault;
+
+const TREES: [u32; 5] = [1, 2, 3, 7, 64];
+
+// A step overflows at a cell of level 1.
+fn overflow(step: u32, x: [u32; 3]) -> Result<(u64, u64), EvalFault> {
+    Err(EvalFault::Overflow {
+        step,
+        key: CellKey { level: 1, x },
+    })
+}
+
+// Each file, and how many leaves there are at first and in the end.
+#[test]
+fn worlds_of_worked_files_are_where_the_evaluation_is(rt: HostRuntime) {
+    let table = [
+        ("single cell", SINGLE_CELL, 1, 1),
+        ("nine leaves", NINE_LEAVES, 9, 9),
+        ("floored", FLOORED, 9, 9),
+        ("fixed edge", FIXED_EDGE, 9, 9),
+        ("wind", WIND, 9, 9),
+        ("wave", WAVE, 9, 9),
+        ("refined centre", REFINED_CENTRE, 17, 17),
+        ("space", SPACE, 27, 27),
+        ("three levels", THREE_LEVELS, 25, 25),
+        ("two refined", TWO_REFINED, 25, 25),
+        ("inflow", INFLOW, 17, 57),
+        ("kept child", KEPT_CHILD, 25, 25),
+        ("kept at lo", KEPT_AT_LO, 25, 25),
+        ("not kept", NOT_KEPT, 25, 9),
+        ("flat", FLAT, 81, 81),
+        ("deep", DEEP, 65, 65),
+    ];
+    for (name, file, first, last) in table {
+        assert_eq!(rt;
+            compare(&rt, rt.alloc(), file, &TREES),
+            Ok((first, last)),
+            "{name}"
+        );
+    }
+}
+
+// Each file, and the refusal.
+#[test]
+fn worlds_are_refused_as_the_evaluation_is(rt: HostRuntime) {
+    let crowded = Err(EvalFault::Crowded {
+        step: 1,
+        cells: 215_056,
+    });
+    let table = [
+        ("overflows", OVERFLOWS, overflow(1, [0, 1, 0])),
+        (
+            "overflows in space",
+            OVERFLOWS_IN_SPACE,
+            overflow(1, [0, 1, 1]),
+        ),
+        ("crowded", CROWDED, crowded),
+    ];
+    for (name, file, want) in table {
+        assert_eq!(rt; compare(&rt, rt.alloc(), file, &TREES), want, "{name}");
+    }
+}
