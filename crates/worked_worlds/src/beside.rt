@@ -129,3 +129,58 @@ pub(crate) fn compare(
     }
     Ok((first, grid.leaf_count()))
 }
+
+// A world takes so many steps, up to one that is refused.
+fn advance_by(
+    rt: &impl Abort,
+    alloc: Global,
+    world: &mut World<AnySolver>,
+    steps: u32,
+) -> Result<(), EvalFault> {
+    for _ in 0..steps {
+        advance(rt, alloc, world)?;
+    }
+    Ok(())
+}
+
+// A world that took so many steps is where the evaluation ends, or it is not live and was refused alike.
+fn expect_end(
+    rt: &impl Abort,
+    alloc: Global,
+    world: &mut World<AnySolver>,
+    steps: u32,
+    found: Result<(), EvalFault>,
+    want: &Result<(Grid, Field), EvalFault>,
+) -> Result<(), AllocError> {
+    match want {
+        Ok((grid, field)) => {
+            assert_eq!(rt; found, Ok(()));
+            let rows = field.rows(alloc)?;
+            expect_at(rt, alloc, world, grid, rows.as_slice(), steps)?;
+        }
+        Err(fault) => {
+            assert_eq!(rt; found, Err(*fault));
+            assert!(rt; !world.is_live());
+        }
+    }
+    Ok(())
+}
+
+// Worlds of so many trees each that take all steps of a file, or are refused, before they are shown: they are where the
+// evaluation ends.
+pub(crate) fn compare_last(
+    rt: &impl Abort,
+    alloc: Global,
+    file: &str,
+    trees: &[u32],
+) -> Result<(), AllocError> {
+    let plan = plan_of(rt, alloc, file)?;
+    let (grid, field) = opened(rt, alloc, &plan)?;
+    let mut worlds = all_started(rt, alloc, &plan, &grid, &field, trees)?;
+    let want = evaluate(alloc, &grid, &field, &plan.solver, plan.steps);
+    for world in worlds.iter_mut() {
+        let found = advance_by(rt, alloc, world, plan.steps);
+        expect_end(rt, alloc, world, plan.steps, found, &want)?;
+    }
+    Ok(())
+}

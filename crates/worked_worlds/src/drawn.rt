@@ -1,12 +1,14 @@
-//! Small files by a generator with a fixed seed: worlds of several trees are where the evaluation is, whatever they ask for.
+//! Small files by a generator with a fixed seed: worlds of several trees are where the evaluation is.
 ghost use Rattle.std.specs.Prelude.{◌<◌, ◌≤◌};
 
-use crate::beside::compare;
+use crate::beside::{compare, compare_last};
 use spacetree::EvalFault;
 use std::alloc::{AllocError, Global};
 
 // How many files are drawn.
 const FILES: u32 = 60;
+
+const TREES: [u32; 4] = [1, 2, 5, 64];
 
 // How many cells of a level lie on an axis.
 const EXTENTS: [u32; 4] = [1, 3, 9, 27];
@@ -186,7 +188,8 @@ fn worlds_of_drawn_files_are_where_the_evaluation_is(rt: HostRuntime) -> Result<
     let mut refused: u32 = 0;
     for _ in 0..FILES {
         let file = drawn_file(alloc, &mut seed)?;
-        match compare(&rt, alloc, file.as_str(), &[1, 2, 5, 64]) {
+        compare_last(&rt, alloc, file.as_str(), &TREES)?;
+        match compare(&rt, alloc, file.as_str(), &TREES) {
             Ok((first, last)) => {
                 if first != last {
                     changed = changed.saturating_add(1);

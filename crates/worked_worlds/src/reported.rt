@@ -218,3 +218,41 @@ fn worlds_note_their_sweeps(rt: HostRuntime) -> Result<(), EvalFault> {
     }
     Ok(())
 }
+
+// How many notes there are of a file by so many trees: for each tree a raising sweep, one more for each step that is
+// shown, and for each step two or, where the grid may change, three.
+#[test]
+fn each_tree_notes_its_sweeps(rt: HostRuntime) -> Result<(), EvalFault> {
+    let alloc = rt.alloc();
+    let table: [(&str, &str, u32, usize); 4] = [
+        ("single cell", SINGLE_CELL, 3, 6),
+        ("two refined", TWO_REFINED, 2, 12),
+        ("wave", WAVE, 7, 56),
+        ("inflow", INFLOW, 64, 640),
+    ];
+    for (name, file, trees, want) in table {
+        let plan = plan_of(&rt, alloc, file)?;
+        let mut world = world_of(&rt, alloc, &plan, trees)?;
+        report_of(&rt, alloc, &plan, &mut world, Shows::Traffic)?;
+        assert_eq!(rt; world.notes().len(), want, "{name}");
+    }
+    Ok(())
+}
+
+// The report of the leaves of level 5, in each step the same.
+#[test]
+fn a_world_of_many_leaves_reports_its_tree(rt: HostRuntime) -> Result<(), EvalFault> {
+    let alloc = rt.alloc();
+    let plan = plan_of(&rt, alloc, MANY_LEAVES)?;
+    let mut world = world_of(&rt, alloc, &plan, 1)?;
+    let report = report_of(&rt, alloc, &plan, &mut world, Shows::Traffic)?;
+    let mut want = String::new(alloc);
+    for step in 0..=8 {
+        writeln!(want, "traffic {step} trees 1")?;
+        want.push_str(
+            "tree 0 cells 66430 stored 67164 pushes 198556 hanging 0 enclave 59049 skeleton 0 sent 0\n",
+        )?;
+    }
+    assert_eq!(rt; report.as_slice(), want.as_bytes());
+    Ok(())
+}

@@ -1,8 +1,9 @@
 //! Worked files by several numbers of trees, against the plain evaluator.
-use crate::beside::compare;
+use crate::beside::{compare, compare_last};
 use crate::files::*;
 use peano_keys::CellKey;
 use spacetree::EvalFault;
+use std::alloc::AllocError;
 
 const TREES: [u32; 5] = [1, 2, 3, 7, 64];
 
@@ -63,4 +64,23 @@ fn worlds_are_refused_as_the_evaluation_is(rt: HostRuntime) {
     for (name, file, want) in table {
         assert_eq!(rt; compare(&rt, rt.alloc(), file, &TREES), want, "{name}");
     }
+}
+
+// Files whose worlds are shown in the end alone.
+#[test]
+fn worlds_that_are_shown_last_are_where_the_evaluation_ends(
+    rt: HostRuntime,
+) -> Result<(), AllocError> {
+    let alloc = rt.alloc();
+    for file in [INFLOW, MEANS, NOT_KEPT, TWO_REFINED, WAVE, OVERFLOWS] {
+        compare_last(&rt, alloc, file, &TREES)?;
+    }
+    compare_last(&rt, alloc, ADAPTIVE_WAVE, &[2])
+}
+
+// As many cells as there may be.
+#[test]
+fn worlds_of_the_largest_grid_open_as_the_evaluation_does(rt: HostRuntime) {
+    let leaves = compare(&rt, rt.alloc(), LARGEST, &[1, 2, 7, 64]);
+    assert_eq!(rt; leaves, Ok((177_777, 177_777)));
 }
