@@ -6,7 +6,7 @@ use spacetree::EvalFault;
 use std::alloc::{AllocError, Global};
 
 // How many files are drawn.
-const FILES: u32 = 60;
+const FILES: u32 = 40;
 
 const TREES: [u32; 4] = [1, 2, 5, 64];
 
@@ -133,7 +133,7 @@ fn push_boxes(text: &mut String, seed: &mut u32, form: Form) -> Result<(), Alloc
     requires most { form.depth ≤ 3 }
 {
     // Large values may overflow.
-    let unit = if drawn(seed, 8) == 0 {
+    let unit = if drawn(seed, 4) == 0 {
         1_000_000_000_000_000
     } else {
         1
