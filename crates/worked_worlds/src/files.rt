@@ -72,7 +72,11 @@ pub(crate) const DEEP: &str =
 pub(crate) const OVERFLOWS: &str =
     "dim = 2\ndepth = 1\nbase = 1\nsolver = 'diffuse'\na = 1\nb = 1\nsteps = 1\n[[fill]]\nlevel = 0\nfrom = [0, 0]\nto = [1, 1]\nvalue = [9000000000000000000]\n[[fill]]\nlevel = 1\nfrom = [1, 1]\nto = [2, 2]\nvalue = [-9000000000000000000]\n";
 
-// So in space.
+// Nine leaves whose values grow, with changing signs, until they leave the range in step 11, all of them.
+pub(crate) const OVERFLOWS_LATE: &str =
+    "dim = 2\ndepth = 1\nbase = 1\nsolver = 'diffuse'\na = 1\nb = 1\nsteps = 20\n[[fill]]\nlevel = 1\nfrom = [1, 1]\nto = [2, 2]\nvalue = [100]\n";
+
+// Leaves in space leave it.
 pub(crate) const OVERFLOWS_IN_SPACE: &str =
     "dim = 3\ndepth = 1\nbase = 1\nsolver = 'diffuse'\na = 1000000\nb = 1\nsteps = 1\n[[fill]]\nlevel = 1\nfrom = [1, 1, 1]\nto = [2, 2, 2]\nvalue = [9000000000000000000]\n";
 

@@ -54,6 +54,7 @@ fn worlds_are_refused_as_the_evaluation_is(rt: HostRuntime) {
     });
     let table = [
         ("overflows", OVERFLOWS, overflow(1, [0, 1, 0])),
+        ("overflows late", OVERFLOWS_LATE, overflow(11, [0, 0, 0])),
         (
             "overflows in space",
             OVERFLOWS_IN_SPACE,
@@ -72,7 +73,7 @@ fn worlds_that_are_shown_last_are_where_the_evaluation_ends(
     rt: HostRuntime,
 ) -> Result<(), AllocError> {
     let alloc = rt.alloc();
-    for file in [INFLOW, MEANS, NOT_KEPT, TWO_REFINED, WAVE, OVERFLOWS] {
+    for file in [INFLOW, MEANS, NOT_KEPT, TWO_REFINED, WAVE, OVERFLOWS_LATE] {
         compare_last(&rt, alloc, file, &TREES)?;
     }
     compare_last(&rt, alloc, ADAPTIVE_WAVE, &[2])
