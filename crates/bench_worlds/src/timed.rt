@@ -1,5 +1,5 @@
 //! The times of a file's steps, by a world and by the plain evaluator.
-ghost use Rattle.std.specs.Prelude.{◌≤◌, IfOk};
+ghost use Rattle.std.specs.Prelude.{IfOk};
 ghost use Rattle.peano_keys.specs.Grid.{IsGrid};
 ghost use Rattle.volume_solver.specs.Any.{parts_in};
 ghost use Rattle.spacetree.specs.Fields.{IsFieldOn};
@@ -16,7 +16,7 @@ use std::time::{Clock, Instant};
 use step_driver::World;
 use volume_solver::AnySolver;
 
-// Times of so many steps over leaves: of the steps, and of showing the world once.
+// The leaves of all steps, and the nanoseconds: of the steps, and of showing the world once.
 #[derive(Clone, Copy)]
 struct Times {
     leaves: u64,

@@ -1,9 +1,4 @@
 //! Worlds beside the plain evaluator, step by step.
-ghost use Rattle.std.specs.Prelude.{◌≡◌, ◌≤◌, true, IfOk};
-ghost use Rattle.peano_keys.specs.Grid.{IsGrid};
-ghost use Rattle.volume_solver.specs.Any.{parts_in, deepest_in};
-ghost use Rattle.spacetree.specs.Fields.{IsFieldOn};
-
 use crate::opening::{all_started, opened, plan_of};
 use spacetree::{EvalFault, Field, Grid, Row, evaluate};
 use std::alloc::{AllocError, Global};

@@ -33,7 +33,7 @@ fn drawn(seed: &mut u32, bound: u32) -> u32
     (*seed >> 8) % bound
 }
 
-// A random number of at most so many units on either side of 0.
+// A random number of at most a thousand units on either side of 0.
 fn drawn_value(seed: &mut u32, unit: i64) -> i64 {
     (i64::from(drawn(seed, 2_001)) - 1_000).saturating_mul(unit)
 }
@@ -190,11 +190,8 @@ fn worlds_of_drawn_files_are_where_the_evaluation_is(rt: HostRuntime) -> Result<
         let file = drawn_file(alloc, &mut seed)?;
         compare_last(&rt, alloc, file.as_str(), &TREES)?;
         match compare(&rt, alloc, file.as_str(), &TREES) {
-            Ok((first, last)) => {
-                if first != last {
-                    changed = changed.saturating_add(1);
-                }
-            }
+            Ok((first, last)) if first == last => {}
+            Ok(_) => changed = changed.saturating_add(1),
             Err(EvalFault::NoMemory) => return Err(AllocError),
             Err(_) => refused = refused.saturating_add(1),
         }

@@ -1,5 +1,5 @@
 //! What files open with: their plans, their grids and fields, and the worlds that stand at these.
-ghost use Rattle.std.specs.Prelude.{◌≤◌, IfOk};
+ghost use Rattle.std.specs.Prelude.{IfOk};
 ghost use Rattle.peano_keys.specs.Grid.{IsGrid};
 ghost use Rattle.volume_solver.specs.Any.{parts_in};
 ghost use Rattle.spacetree.specs.Fields.{IsFieldOn};
