@@ -9,7 +9,6 @@ use Rattle.command_line.specs.CommandLine.{Text, Means}
 use Rattle.command_line.proofs.Meaning.{one}
 use Rattle.peano_run.specs.declared.asked.Asked.{Asked}
 use Rattle.peano_run.specs.declared.asked.Asked.TheVariants.{File, Demo}
-use Rattle.peano_run.specs.declared.asked.Request.{Request}
 use Rattle.peano_run.specs.Asked.{AsksFor, Asks, AreRefused}
 
 none_some : (n : ℕ) → None ≡ Some n → ⊥

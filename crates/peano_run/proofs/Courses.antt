@@ -1,23 +1,21 @@
 -- A course goes on from moment to moment.
-use Rattle.std.proofs.Common.{◌≡◌, ℕ, zero, suc, ◌+◌, ◌<◌, ◌≤◌, ◌&&◌, Bool, true, false, if◌then◌else◌, [], ◌++◌, length, List, refl, sym, subst, ap, ◌∙◌, arith}
+use Rattle.std.proofs.Common.{ℕ, suc, ◌<◌, ◌≤◌, [], refl, arith}
 use Rattle.peano_keys.specs.Grid.{Spacetree}
 use Rattle.peano_keys.specs.Field.{States}
 use Rattle.volume_solver.specs.Any.{parts_in, updated_by, marked_by}
 use Rattle.spacetree.specs.Opening.{Opens, OpensField}
 use Rattle.spacetree.specs.Counts.{cells_of}
 use Rattle.spacetree.specs.Evaluation.{IsServedStep}
-use Rattle.spacetree.specs.Fields.{rows_of}
-use Rattle.curve_cuts.specs.Keys.{CutPoints, cuts_of}
+use Rattle.curve_cuts.specs.Keys.{CutPoints}
 use Rattle.step_driver.specs.Starts.{AreFirstKeys}
-use Rattle.grid_file.specs.Plan.{printed}
 use Rattle.grid_file.specs.declared.plan.Plan.{Plan}
 use Rattle.peano_run.specs.declared.answer.Answer.{Answer}
 use Rattle.peano_run.specs.declared.answer.Answer.TheVariants as answer
 use Rattle.peano_run.specs.declared.answer.LimitKind.TheVariants.{Cells, Lines}
 use Rattle.peano_run.specs.declared.asked.Request.{Request}
 use Rattle.peano_run.specs.declared.course.Course.{Course}
-use Rattle.peano_run.specs.Report.{Moment, Reaches, GoesOn, HasManyLines, at_start, in_step, Refuses, IsAdded, IsPrintedText, added_lines, shows_fields, most_lines}
-use Rattle.peano_run.specs.Course.{StandsAt, IsCourse, Shows, ShowFails, with_text}
+use Rattle.peano_run.specs.Report.{Moment, GoesOn, at_start, in_step, Refuses}
+use Rattle.peano_run.specs.Course.{IsCourse, Shows, ShowFails, with_text}
 
 -- the moment before anything is shown
 abbrev pub first_moment : CutPoints → Spacetree → States → Moment

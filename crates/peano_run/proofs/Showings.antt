@@ -1,5 +1,5 @@
 -- What a step shows of a course, and where a step of its world leads it.
-use Rattle.std.proofs.Common.{append_assoc, ◌≡◌, ℕ, suc, ◌+◌, ◌<◌, ◌≤◌, ◌&&◌, Bool, true, false, if◌then◌else◌, List, [], ◌++◌, length, Vec, Global, refl, sym, subst, ap, ap₂, ◌∙◌, arith}
+use Rattle.std.proofs.Common.{append_assoc, ◌≡◌, ℕ, ◌+◌, ◌<◌, ◌≤◌, ◌&&◌, Bool, true, false, if◌then◌else◌, List, [], ◌++◌, length, Vec, Global, refl, sym, subst, ap, ap₂, ◌∙◌, arith}
 use Rattle.std.specs.Prelude.{Result, Ok, Err, IfOk, IfErr}
 use Rattle.std.specs.Result.{IsErrAnd}
 use Rattle.std.proofs.lemmas.List.{append-nil}
@@ -25,12 +25,10 @@ use Rattle.step_sweeps.specs.Kernels.{Kernel}
 use Rattle.grid_file.specs.Plan.{printed}
 use Rattle.grid_file.specs.declared.plan.Plan.{Plan}
 use Rattle.peano_run.specs.declared.answer.Answer.{Answer}
-use Rattle.peano_run.specs.declared.answer.Answer.TheVariants as answer
-use Rattle.peano_run.specs.declared.answer.LimitKind.TheVariants.{Lines}
 use Rattle.peano_run.specs.declared.asked.Request.{Request}
 use Rattle.peano_run.specs.declared.course.Course.{Course}
-use Rattle.peano_run.specs.Report.{Moment, GoesOn, OverflowsIn, CrowdedIn, IsAdded, IsAddedIf, IsPrintedText, IsTrafficText, added_lines, fields_text, shows_fields, shows_traffic, most_lines}
-use Rattle.peano_run.specs.Course.{StandsAt, Shows, ShowFails, IsShowing, CountsLines, with_text}
+use Rattle.peano_run.specs.Report.{Moment, GoesOn, OverflowsIn, CrowdedIn, IsAdded, IsAddedIf, IsTrafficText, added_lines, fields_text, shows_fields, shows_traffic, most_lines}
+use Rattle.peano_run.specs.Course.{StandsAt, Shows, ShowFails, IsShowing, CountsLines}
 use Rattle.peano_run.proofs.Courses.{after_step}
 
 -- a solver's kernel

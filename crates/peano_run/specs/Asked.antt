@@ -1,5 +1,5 @@
 -- What the words of a command line ask for, as far as it is served.
-use Rattle.std.specs.Prelude.{◌≡◌, ◌≤◌, ℕ, List, Option, None, Some}
+use Rattle.std.specs.Prelude.{◌≡◌, ◌≤◌, List, Option, None, Some}
 use Rattle.command_line.specs.declared.words.Words.{Words}
 use Rattle.command_line.specs.CommandLine.{Text, Means}
 use Rattle.peano_run.specs.declared.asked.Asked.{Asked}

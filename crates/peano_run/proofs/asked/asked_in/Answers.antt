@@ -1,4 +1,4 @@
-use Rattle.std.proofs.Common.{◌≡◌, Err, ap, map, string_bytes}
+use Rattle.std.proofs.Common.{Err, ap, map, string_bytes}
 use Rattle.peano_run.proofs.AskedFor.{not_served, refused_words}
 use Rattle.peano_run.proofs.asked.asked_in.Goals as goal
 

@@ -1,4 +1,4 @@
-use Rattle.std.proofs.Common.{◌≡◌, ℕ, ◌+◌, Bool, true, false, if◌then◌else◌, length, refl, ap, sym, ◌∙◌, arith}
+use Rattle.std.proofs.Common.{◌≡◌, if◌then◌else◌, length, refl, ap, sym, ◌∙◌, arith}
 use Rattle.spacetree.specs.Fields.{rows_of}
 use Rattle.peano_run.specs.Report.{shows_fields}
 use Rattle.peano_run.proofs.course.counted.Goals as goal

@@ -1,4 +1,4 @@
-use Rattle.std.proofs.Common.{◌≡◌, refl, sym, ◌∙◌}
+use Rattle.std.proofs.Common.{refl}
 use Rattle.peano_run.proofs.Courses.{first_moment, opening_course, opening_refused}
 use Rattle.peano_run.proofs.Showings.{shown_ok, shown_err}
 use Rattle.peano_run.proofs.course.opened.Goals as goal

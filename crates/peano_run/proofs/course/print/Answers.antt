@@ -1,4 +1,3 @@
-use Rattle.std.proofs.Common.{◌≡◌}
 use Rattle.peano_run.proofs.Showings.{own_parts, counted_refused, printed_shows}
 use Rattle.peano_run.proofs.course.print.Goals as goal
 

@@ -1,7 +1,5 @@
-use Rattle.std.proofs.Common.{◌≡◌, true, false, sym, subst, ◌∙◌}
+use Rattle.std.proofs.Common.{sym, subst, ◌∙◌}
 use Rattle.peano_run.specs.Course.{StandsAt, IsShowing}
-use Rattle.peano_run.specs.Report.{Moment}
-use Rattle.grid_file.specs.Plan.{printed}
 use Rattle.peano_run.proofs.Showings.{not_printed}
 use Rattle.peano_run.proofs.course.show.Goals as goal
 

@@ -1,4 +1,4 @@
-use Rattle.std.proofs.Common.{◌≡◌, ℕ, suc, ◌+◌, sym, subst, add-one, arith}
+use Rattle.std.proofs.Common.{◌+◌, sym, subst, add-one}
 use Rattle.volume_solver.specs.Any.{adapting_in}
 use Rattle.peano_run.specs.Course.{IsCourse, Shows, ShowFails}
 use Rattle.peano_run.proofs.Courses.{after_step, next_course, next_refused}

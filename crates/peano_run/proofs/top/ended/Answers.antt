@@ -1,4 +1,4 @@
-use Rattle.std.proofs.Common.{ℕ, map, string_bytes, refl, subst}
+use Rattle.std.proofs.Common.{map, string_bytes, refl, subst}
 use Rattle.peano_run.specs.declared.asked.Asked.{Asked}
 use Rattle.peano_run.specs.Served.{Serves}
 use Rattle.peano_run.proofs.AskedFor.{one_asked}
