@@ -50,7 +50,7 @@ def faults_of(name):
     with open(name, encoding="utf-8") as it:
         text = it.read()
     for block in blocks_of(text):
-        if re.match(r"\$ (bin/peano|tools/\S+).* < examples/", block[0]):
+        if re.match(r"\$ (bin/peano|tools/\S+.*) < examples/", block[0]):
             wanted = output_of(block[0][2:]).rstrip("\n").split("\n")
             if [line.rstrip() for line in block[1:]] != [line.rstrip() for line in wanted]:
                 yield f"the block of '{block[0]}' is not what the command gives"
