@@ -53,7 +53,8 @@ module _ (updated : UpdateRule) where
     visits_at i t None new = old
     visits_at i t (Some x) new = new x refl
 
-    visits : (i : ℕ) (o : Option Tree) → ((t : Tree) (x : Stop) → o ≡ Some t → slice_get (stops c.sweep t) t.made ≡ Some x → P (core_visited c i t x)) → P (or_skipped updated c (visited updated c i o))
+    -- each by what is found in the core
+    pub visits : (i : ℕ) (o : Option Tree) → ((t : Tree) (x : Stop) → o ≡ Some t → slice_get (stops c.sweep t) t.made ≡ Some x → P (core_visited c i t x)) → P (or_skipped updated c (visited updated c i o))
     visits i None new = old
     visits i (Some t) new = visits_at i t (slice_get (stops c.sweep t) t.made) (λ x next. new t x refl next)
 
@@ -65,11 +66,11 @@ module _ (updated : UpdateRule) where
     moves_at i k t None m new = old
     moves_at i k t (Some o) m new = words i k t o (m.answers c.answers o.leaf) (m.word o.word) (λ w e. new o w refl e)
 
-    moves : (i k : ℕ) (p : Option Tree) (m : Move updated) → ((t : Tree) (o : Offered) (w : Word) → p ≡ Some t → slice_get t.tasks k ≡ Some o → m.word o.word ≡ Some w → P (core_moved c i k t o w (m.answers c.answers o.leaf))) → P (or_skipped updated c (moved updated c i k p m))
+    pub moves : (i k : ℕ) (p : Option Tree) (m : Move updated) → ((t : Tree) (o : Offered) (w : Word) → p ≡ Some t → slice_get t.tasks k ≡ Some o → m.word o.word ≡ Some w → P (core_moved c i k t o w (m.answers c.answers o.leaf))) → P (or_skipped updated c (moved updated c i k p m))
     moves i k None m new = old
     moves i k (Some t) m new = moves_at i k t (slice_get t.tasks k) m (λ o w there e. new t o w refl there e)
 
-    exchanges : (s : Sweep) (b : Bool) → (b ≡ true → P (core_rewound c s)) → P (or_skipped updated c (if b then Some (core_rewound c s) else None))
+    pub exchanges : (s : Sweep) (b : Bool) → (b ≡ true → P (core_rewound c s)) → P (or_skipped updated c (if b then Some (core_rewound c s) else None))
     exchanges s true new = new refl
     exchanges s false new = old
 

@@ -1,12 +1,12 @@
-mod Lists
+pub mod Lists
 mod Keys
-mod Events
+pub mod Events
 mod Sound
 mod Covered
-mod Forward
+pub mod Forward
 mod Found
 mod Trees
-mod Desks
+pub mod Desks
 mod Begun
 mod Toured
 mod Borders

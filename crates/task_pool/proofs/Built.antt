@@ -134,6 +134,7 @@ module _ {S : Type 0} {g : Ghosts S} where
             pool = pool_is;
             tree = omega (arith, one.tree_is, below, is.trees);
             first = ap (λ (v : View S). v.number) one.view;
+            idle = ap (λ (v : View S). v.claimed) one.view;
             seat = λ x. subst (λ m. IsSeatOf (get_or b.trees.items m x).desk hand.seat) (sym one.tree_is) (new x).seat;
             deque = λ x. subst (λ m. worker_deque hand.worker ≡ stealer_deque (get_or b.trees.items m x).stealer) (sym one.tree_is) (new x).deque;
           },

@@ -4,6 +4,9 @@ use mathlib.Core.Option.{some}
 use lib.ListN.{get_elem?}
 use Rattle.task_pool.specs.declared.job.Job.{Job}
 use Rattle.task_pool.specs.declared.log.Log.{Log}
+use Rattle.solver_api.specs.declared.solver.Solver.{Ghosts}
+use Rattle.task_pool.specs.declared.parts.TreeHand.{TreeHand}
+use Rattle.task_pool.specs.Seen.{spawned_of, hand_log}
 use Rattle.task_pool.specs.Deque.{count, total, has_number, Keeps}
 
 -- what a helper took are tasks that the tree's hand spawned: whatever is asked of tasks, as many of those spawned have it at least
@@ -13,3 +16,7 @@ TakenWasSpawned = (items : List Job) (views : List Log) (spawned : List Job) (po
 -- all helpers together took no number twice
 abbrev pub TakenOnce : Type 0
 TakenOnce = (items : List Job) (views : List Log) (spawned : List Job) (n : ℕ) → Keeps items views spawned → total (λ v. count (has_number n) v.taken) views ≤ 1
+
+-- a hand numbers its tasks from 0 upwards: those in its deque have numbers below how many it has spawned
+abbrev pub NumbersAreBelow : {S : Type 0} {g : Ghosts S} → TreeHand S g → Type 0
+NumbersAreBelow h = (n : ℕ) → spawned_of h ≤ n → count (has_number n) (hand_log h).spawned ≡ 0

@@ -1,11 +1,12 @@
 -- What callers see of a pool, of the hands of its trees and of its helpers.
 use Rattle.std.specs.Prelude.{◌≡◌, ◌⊎◌, ℕ, ◌+◌, ◌*◌, ◌<◌, ◌≤◌, ◌^◌, true, List, [], ◌∷◌, length, slice_index_or, vec_len}
-use Rattle.crossbeam_deque.specs.Handles.{IsPassOf, stealer_deque, worker_deque, view}
+use Rattle.crossbeam_deque.specs.Handles.{IsPassOf, stealer_deque, worker_deque, worker_view, view}
 use Rattle.solver_api.specs.declared.solver.Solver.{Ghosts}
 use Rattle.result_table.specs.declared.view.View.{View}
 use Rattle.result_table.specs.Seats.{IsSeatOf, view_of, size_of, desk_solver}
 use Rattle.result_table.specs.Views.{has, with_gathered, with_idle, with_busy}
 use Rattle.task_pool.specs.Deque.{count, is_task}
+use Rattle.task_pool.specs.declared.log.Log.{Log}
 use Rattle.task_pool.specs.declared.parts.Tree.{Tree}
 use Rattle.task_pool.specs.declared.parts.Pool.{Pool}
 use Rattle.task_pool.specs.declared.parts.TreeHand.{TreeHand}
@@ -42,6 +43,10 @@ module _ {S : Type 0} {g : Ghosts S} where
   abbrev pub spawned_of : TreeHand S g → ℕ
   spawned_of h = h.spawned
 
+  -- what the hand knows as a user of its tree's deque: the tasks that it put there
+  abbrev pub hand_log : TreeHand S g → Log
+  hand_log h = worker_view h.worker
+
   -- the desk of a tree has this many tasks
   abbrev pub HasTasks : Pool S g → ℕ → ℕ → Type 0
   HasTasks p tree n = (x : Tree S g) → size_of (slice_index_or p.trees.items tree x).desk ≡ n
@@ -58,11 +63,12 @@ module _ {S : Type 0} {g : Ghosts S} where
     pub most : p.total ≤ vec_len p.trees * 2 ^ 32
     pub solver : (i : ℕ) (x : Tree S g) → i < vec_len p.trees → desk_solver (slice_index_or p.trees.items i x).desk ≡ p.solver.value
 
-  -- a hand of this pool: seat 0 of its tree's desk, and the end of that tree's deque at which tasks are put
+  -- a hand of this pool: seat 0 of its tree's desk, at which it claims no task, and the end of that tree's deque at which tasks are put
   pub record IsHandOf (p : Pool S g) (h : TreeHand S g) : Type 0 where
     pub pool : IsPool p
     pub tree : h.tree < vec_len p.trees
     pub first : (view_of h.seat).number ≡ 0
+    pub idle : (view_of h.seat).claimed ≡ []
     pub seat : (x : Tree S g) → IsSeatOf (slice_index_or p.trees.items h.tree x).desk h.seat
     pub deque : (x : Tree S g) → worker_deque h.worker ≡ stealer_deque (slice_index_or p.trees.items h.tree x).stealer
 

@@ -1,5 +1,6 @@
 //! What a helper does.
-ghost use Rattle.std.specs.Prelude.{◌≡◌, ◌+◌, ◌<◌, ◌≤◌, ◌^◌};
+ghost use Rattle.std.specs.Prelude.{◌≡◌, ◌+◌, ◌<◌, ◌≤◌, ◌^◌, ℕ, List};
+ghost use Rattle.task_pool.specs.Shifts.{taken_in, EndsAfter};
 ghost use Rattle.task_pool.specs.Seen.{IsHelperOf, published_by, taken_by, pool_solver, tree_count, task_count};
 
 use crate::gate::Gate;
@@ -38,6 +39,7 @@ impl<S: Solver> Helper<S> {
         ensures helper { IsHelperOf pool.now self.new }
         ensures published { published_by self.new ≡ published_by self.old + result }
         ensures taken { taken_by self.old + result ≤ taken_by self.new }
+        ensures rounds { (rounds : List ℕ) × EndsAfter (task_count pool.now) rounds × (taken_by self.new ≡ taken_by self.old + taken_in rounds) }
         ensures most { taken_by self.new ≤ taken_by self.old + task_count pool.now + tree_count pool.now }
     {
         let mut shift = Shift::new();

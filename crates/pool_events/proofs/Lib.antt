@@ -1,0 +1,9 @@
+mod Says
+mod Done
+mod Shares
+mod Cores
+mod Spawned
+mod Steps
+mod Histories
+mod Manned
+mod Did
