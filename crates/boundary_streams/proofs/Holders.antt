@@ -20,7 +20,7 @@ use Rattle.boundary_streams.specs.Holders.{is_met, has_corner, is_sent}
 use Rattle.boundary_streams.specs.Sendings.{interval_at, intervals_round, is_any_met}
 use Rattle.boundary_streams.specs.Laws.{SendsToHolders}
 
-met : (r s : Range) → ranges_meet r s ≡ true → Meets r s
+pub met : (r s : Range) → ranges_meet r s ≡ true → Meets r s
 met r s h =
     let low : ℕ = max r.lo s.lo in
     let below : max r.lo s.lo < min r.hi s.hi = ltb-true (max r.lo s.lo) (min r.hi s.hi) h in
@@ -116,7 +116,7 @@ sends_to_holders k s t v vertex tree = (
   λ h. ap (λ a. not a && has_corner k t v) (differ t s h.0) ∙ test_from_holder k t v vertex tree h.1,
 )
 
-false_or_true : (b : Bool) → (b ≡ true → ⊥) → b ≡ false
+pub false_or_true : (b : Bool) → (b ≡ true → ⊥) → b ≡ false
 false_or_true true h = absurd (h refl)
 false_or_true false h = refl
 
@@ -145,6 +145,3 @@ pub any_is : (k : Cuts) (t : ℕ) (v : VertexKey) → is_any_met (range_of k t) 
 any_is k t v =
     of_eight k.dim (adjacent_of k.dim v) (λ o. ranges_meet (interval_at k o) (range_of k t)) (empty_meets (range_of k t))
     ∙ any_same (λ n. ranges_meet (interval_at k (adjacent_of k.dim v n)) (range_of k t)) (λ n. is_met k (range_of k t) (adjacent_of k.dim v n)) (corner_numbers k.dim) (λ n. met_same k (range_of k t) (adjacent_of k.dim v n))
-
-pub wanted_is : (k : Cuts) (s t : ℕ) (v : VertexKey) → t ≢ s → is_any_met (range_of k t) (intervals_round k v) ≡ is_sent k s t v
-wanted_is k s t v h = any_is k t v ∙ ap (λ a. not a && has_corner k t v) (sym (differ t s h))

@@ -7,3 +7,5 @@ pub mod Progress
 pub mod Stored
 pub mod Found
 pub mod Agrees
+pub mod WithinCell
+pub mod Rounds

@@ -1,9 +1,9 @@
 -- Lists of parcels, as they grow.
-use Rattle.std.proofs.Common.{◌≡◌, ◌≢◌, ⊎_elim, ℕ, zero, suc, ◌+◌, ◌-◌, ◌<◌, ◌≤◌, Bool, true, false, if◌then◌else◌, List, [], ◌∷◌, ◌++◌, Vec, map, filter, take, length, get_or, refl, sym, ap, subst, ◌∙◌, arith}
+use Rattle.std.proofs.Common.{◌≡◌, ◌≢◌, ⊎_elim, ℕ, zero, suc, ◌+◌, ◌-◌, ◌<◌, ◌≤◌, ◌&&◌, ◌||◌, Bool, true, false, if◌then◌else◌, List, [], ◌∷◌, ◌++◌, Vec, map, filter, take, length, get_or, refl, sym, ap, subst, ◌∙◌, arith}
 use Rattle.std.specs.Prelude.{Option, Some, None, slice_get, slice_index_or, slice_set, IsSomeAnd, All}
 use Rattle.std.proofs.lemmas.Option.{get_or_from_slice_get}
 use Rattle.std.specs.declared.alloc.Global.{Global}
-use Rattle.std.proofs.lemmas.Bool.{cases_eq, cases_lt}
+use Rattle.std.proofs.lemmas.Bool.{cases_eq, cases_lt, false≢true}
 use Rattle.std.proofs.lemmas.List.Elements.{filter-append}
 use Rattle.std.proofs.lemmas.List.{map-set, get_or-map, map-append, length-append, length-set, get_or_append_left, get_or-append_right, get_or-set_same, get_or-set_other, take_more, take_all, append-nil}
 use Rattle.peano_keys.specs.declared.vertex.VertexKey.{VertexKey}
@@ -17,7 +17,7 @@ use Rattle.tree_automaton.specs.TreeLists.{TreeLists}
 use Rattle.boundary_streams.specs.Sent.{Outgoing}
 use Rattle.boundary_streams.specs.Holders.{is_sent}
 use Rattle.boundary_streams.specs.Collects.{IsCollected, sent_from}
-use Rattle.boundary_streams.specs.Sendings.{items_of, AreEmpty, HasSent}
+use Rattle.boundary_streams.specs.Sendings.{AddsWhere, items_of, AreEmpty, HasSent}
 use Rattle.boundary_streams.proofs.Holders.{not_sent}
 use Rattle.boundary_streams.proofs.Written.{some_at, read_at}
 
@@ -43,10 +43,10 @@ added lists i old new p inside is more =
     map-set items_of lists i new
     ∙ ap (λ (xs : List Parcel). slice_set (map items_of lists) i xs) (more ∙ ap (λ (xs : List Parcel). xs ++ p ∷ []) (ap items_of is ∙ sym (get_or-map items_of lists i old [] inside)))
 
--- the lists for the first trees have a parcel more, where it is sent
-pub record IsSentUpTo (k : Cuts) (s : ℕ) (p : Parcel) (old new : List (List Parcel)) (m : ℕ) : Type 0 where
+-- the lists of the first trees have a parcel more, where they pass a test
+pub record IsAddedUpTo (q : ℕ → Bool) (p : Parcel) (old new : List (List Parcel)) (m : ℕ) : Type 0 where
   pub count : length new ≡ length old
-  pub done : (t : ℕ) → t < m → slice_index_or new t [] ≡ (if is_sent k s t p.key then slice_index_or old t [] ++ p ∷ [] else slice_index_or old t [])
+  pub done : (t : ℕ) → t < m → slice_index_or new t [] ≡ (if q t then slice_index_or old t [] ++ p ∷ [] else slice_index_or old t [])
   pub left : (t : ℕ) → m ≤ t → slice_index_or new t [] ≡ slice_index_or old t []
 
 -- a list at a place, after one more parcel where it is wanted
@@ -65,8 +65,8 @@ there_with : (lists : List (List Parcel)) (i t : ℕ) (p : Parcel) (wanted : Boo
 there_with lists i t p true h = get_or-set_other lists i t (get_or lists i [] ++ p ∷ []) [] h
 there_with lists i t p false h = refl
 
-pub sent_more : (k : Cuts) (s : ℕ) (p : Parcel) (old mid new : List (List Parcel)) (m : ℕ) (wanted : Bool) → m < length old → wanted ≡ is_sent k s m p.key → new ≡ with_parcel mid m p wanted → IsSentUpTo k s p old mid m → IsSentUpTo k s p old new (m + 1)
-sent_more k s p old mid new m wanted inside is made h =
+pub added_more : (q : ℕ → Bool) (p : Parcel) (old mid new : List (List Parcel)) (m : ℕ) (wanted : Bool) → m < length old → wanted ≡ q m → new ≡ with_parcel mid m p wanted → IsAddedUpTo q p old mid m → IsAddedUpTo q p old new (m + 1)
+added_more q p old mid new m wanted inside is made h =
     let here : m < length mid = omega (arith, inside, h.count) in
     record {
       count = ap length made ∙ count_with mid m p wanted ∙ h.count;
@@ -77,7 +77,7 @@ sent_more k s p old mid new m wanted inside is made h =
           ∙ here_with mid m p wanted here
           ∙ ap (λ (xs : List Parcel). if wanted then xs ++ p ∷ [] else xs) (h.left m (omega arith))
           ∙ ap (λ b. if b then get_or old m [] ++ p ∷ [] else get_or old m []) is
-          ∙ ap (λ i. if is_sent k s i p.key then get_or old i [] ++ p ∷ [] else get_or old i []) (sym e))
+          ∙ ap (λ i. if q i then get_or old i [] ++ p ∷ [] else get_or old i []) (sym e))
           (λ apart. ap (λ ls. get_or ls t []) made ∙ there_with mid m t p wanted apart ∙ h.done t (omega arith))
           (cases_eq t m);
       left = λ t above.
@@ -85,8 +85,46 @@ sent_more k s p old mid new m wanted inside is made h =
           ap (λ ls. get_or ls t []) made ∙ there_with mid m t p wanted apart ∙ h.left t (omega arith);
     }
 
-pub sent_all : (k : Cuts) (s : ℕ) (p : Parcel) (old new : List (List Parcel)) (m : ℕ) → k.trees ≤ m → IsSentUpTo k s p old new m → HasSent k s p old new
-sent_all k s p old new m all h = record { count = h.count; lists = λ t below. h.done t (omega arith) }
+unpassed : (q : ℕ → Bool) (p : Parcel) (old : List (List Parcel)) (t : ℕ) → q t ≡ false → slice_index_or old t [] ≡ (if q t then slice_index_or old t [] ++ p ∷ [] else slice_index_or old t [])
+unpassed q p old t none = ap (λ b. if b then get_or old t [] ++ p ∷ [] else get_or old t []) (sym none)
+
+-- it begins with a tree before which none passes
+pub added_from : (q : ℕ → Bool) (p : Parcel) (old : List (List Parcel)) (m : ℕ) → ((t : ℕ) → t < m → q t ≡ false) → IsAddedUpTo q p old old m
+added_from q p old m none = record { count = refl; done = λ t below. unpassed q p old t (none t below); left = λ t above. refl }
+
+-- and ends with one from which on none passes
+pub added_all : (q : ℕ → Bool) (p : Parcel) (old new : List (List Parcel)) (m : ℕ) → ((t : ℕ) → m ≤ t → t < length old → q t ≡ false) → IsAddedUpTo q p old new m → AddsWhere q p old new
+added_all q p old new m none h = record {
+  count = h.count;
+  lists = λ t inside. ⊎_elim (λ below. h.done t below) (λ above. h.left t above ∙ unpassed q p old t (none t above inside)) (cases_lt t m);
+}
+
+-- a test that no tree passes
+pub added_none : (q : ℕ → Bool) (p : Parcel) (old : List (List Parcel)) → ((t : ℕ) → t < length old → q t ≡ false) → AddsWhere q p old old
+added_none q p old none = record { count = refl; lists = λ t inside. unpassed q p old t (none t inside) }
+
+one_of : (p : Parcel) (xs : List Parcel) (x y : Bool) → (x && y) ≡ false → (if y then (if x then xs ++ p ∷ [] else xs) ++ p ∷ [] else (if x then xs ++ p ∷ [] else xs)) ≡ (if x || y then xs ++ p ∷ [] else xs)
+one_of p xs true true h = absurd (false≢true (sym h))
+one_of p xs true false h = refl
+one_of p xs false true h = refl
+one_of p xs false false h = refl
+
+-- two tests that no tree passes both
+pub added_both : (q r b : ℕ → Bool) (p : Parcel) (old mid new : List (List Parcel)) → ((t : ℕ) → b t ≡ (q t || r t)) → ((t : ℕ) → (q t && r t) ≡ false) → AddsWhere q p old mid → AddsWhere r p mid new → AddsWhere b p old new
+added_both q r b p old mid new is apart one two = record {
+  count = two.count ∙ one.count;
+  lists = λ t inside.
+      two.lists t (omega (arith, inside, one.count))
+      ∙ ap (λ (xs : List Parcel). if r t then xs ++ p ∷ [] else xs) (one.lists t inside)
+      ∙ one_of p (get_or old t []) (q t) (r t) (apart t)
+      ∙ ap (λ c. if c then get_or old t [] ++ p ∷ [] else get_or old t []) (sym (is t));
+}
+
+pub sent_all : (k : Cuts) (s : ℕ) (q : ℕ → Bool) (p : Parcel) (old new : List (List Parcel)) → length old ≡ k.trees → ((t : ℕ) → q t ≡ is_sent k s t p.key) → AddsWhere q p old new → HasSent k s p old new
+sent_all k s q p old new trees is h = record {
+  count = h.count;
+  lists = λ t below. h.lists t (omega (arith, below, trees)) ∙ ap (λ c. if c then get_or old t [] ++ p ∷ [] else get_or old t []) (is t);
+}
 
 -- a vertex that is not shared adds nothing
 pub sent_none : (k : Cuts) (s : ℕ) (p : Parcel) (old : List (List Parcel)) → IsVertex k.dim p.key → ¬ IsShared k s p.key → HasSent k s p old old

@@ -4,11 +4,13 @@ ghost use Rattle.vertex_stacks.specs.Lists.{parcel_of};
 ghost use Rattle.curve_cuts.specs.Keys.{cuts_of};
 ghost use Rattle.boundary_streams.specs.Trees.{IsKeyOf, IsTreeOf};
 ghost use Rattle.boundary_streams.specs.Collects.{IsCollected};
-ghost use Rattle.boundary_streams.specs.Sendings.{items_of, AreEmpty, HasSent};
+ghost use Rattle.boundary_streams.specs.Sendings.{AddsWhere, AreWithin, items_of, AreEmpty, HasSent, is_met_first};
 
+use crate::inner::is_shared;
 use crate::outbox::Outbox;
-use crate::round::{intervals, is_wanted};
+use crate::round::{intervals, is_met_first};
 use curve_cuts::Keys;
+use peano_curve::Range;
 use peano_records::Parcel;
 use std::alloc::{AllocError, Global};
 use tree_automaton::TreeStore;
@@ -43,6 +45,36 @@ fn add(
     Ok(())
 }
 
+// Adds the parcel of a vertex to the list of each other tree that has a position of interval number `n` and none of an
+// earlier one. It begins with the tree of the interval's first position, and asks no tree behind its last one.
+fn send_round(
+    lists: &mut Vec<Vec<Parcel>>,
+    keys: &Keys,
+    tree: u32,
+    parcel: &Parcel,
+    intervals: &[Range; 8],
+    n: usize,
+) -> Result<(), AllocError>
+    requires eight { length intervals.now ≡ 8 }
+    requires place { n < 8 }
+    requires within { AreWithin (cuts_of keys.now) intervals.now }
+    requires lists { length lists.old.items ≡ (cuts_of keys.now).trees }
+    ensures { OnOk result (AddsWhere (is_met_first (cuts_of keys.now) tree intervals.now n) parcel.now (map items_of lists.old.items) (map items_of lists.new.items)) }
+{
+    let interval = intervals[n];
+    if interval.hi <= interval.lo {
+        return Ok(());
+    }
+    for other in keys.tree_of(interval.lo)..keys.trees() {
+        if interval.hi <= keys.range(other).lo {
+            return Ok(());
+        }
+        let wanted = is_met_first(keys, intervals, n, tree, other);
+        add(lists, other as usize, parcel, wanted)?;
+    }
+    Ok(())
+}
+
 // Adds the parcel of a vertex to the list of each other tree that holds a position round it.
 fn send(
     lists: &mut Vec<Vec<Parcel>>,
@@ -55,9 +87,8 @@ fn send(
     ensures { OnOk result (HasSent (cuts_of keys.now) tree parcel.now (map items_of lists.old.items) (map items_of lists.new.items)) }
 {
     let intervals = intervals(keys, parcel.key);
-    for other in 0..keys.trees() {
-        let wanted = is_wanted(keys, &intervals, parcel.key, tree, other);
-        add(lists, other as usize, parcel, wanted)?;
+    for n in 0..8 {
+        send_round(lists, keys, tree, parcel, &intervals, n)?;
     }
     Ok(())
 }
@@ -76,7 +107,7 @@ fn send_at(
 {
     let tree = store.tree();
     let vertex = store.key_at(k);
-    if !keys.is_shared(vertex, tree) {
+    if !is_shared(keys, vertex, tree) {
         return Ok(());
     }
     let parcel = store.parcel_at(k);

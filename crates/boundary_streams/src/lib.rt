@@ -3,6 +3,7 @@
 #![tactic(auto)]
 
 mod collecting;
+mod inner;
 pub mod laws;
 mod merging;
 mod outbox;

@@ -1,12 +1,12 @@
 //! The positions round a vertex along the curve: which ranges meet them, and who owns them.
-ghost use Rattle.std.specs.Prelude.{◌≡◌, ◌<◌};
+ghost use Rattle.std.specs.Prelude.{◌≡◌, ◌^◌, ◌<◌, ◌≤◌, length};
+ghost use Rattle.peano_curve.specs.Order.{children};
 ghost use Rattle.peano_keys.specs.Dim.{corners};
 ghost use Rattle.curve_cuts.specs.Keys.{cuts_of};
 ghost use Rattle.sweep_visits.specs.Plan.{ranges_meet};
-ghost use Rattle.boundary_streams.specs.Holders.{is_sent};
 ghost use Rattle.boundary_streams.specs.Trees.{IsKeyOf};
 ghost use Rattle.boundary_streams.specs.Mails.{IsOwnerAt};
-ghost use Rattle.boundary_streams.specs.Sendings.{interval_round, intervals_round, is_any_met};
+ghost use Rattle.boundary_streams.specs.Sendings.{AreWithin, interval_round, intervals_round, is_any_met, is_met_first};
 
 use curve_cuts::Keys;
 use peano_curve::{Range, interval};
@@ -25,7 +25,8 @@ fn position_count(dim: Dim) -> u32
 // The interval of an adjacent position, empty where there is none.
 fn interval_at(keys: &Keys, vertex: VertexKey, n: u32) -> Range
     requires { IsKeyOf (cuts_of keys.now) vertex }
-    ensures { result ≡ interval_round (cuts_of keys.now) vertex n }
+    ensures value { result ≡ interval_round (cuts_of keys.now) vertex n }
+    ensures within { result.hi ≤ children keys.now.dim ^ keys.now.depth }
 {
     let dim = keys.dim();
     if n >= position_count(dim) {
@@ -40,7 +41,9 @@ fn interval_at(keys: &Keys, vertex: VertexKey, n: u32) -> Range
 /// The intervals of all adjacent positions.
 pub(crate) fn intervals(keys: &Keys, vertex: VertexKey) -> [Range; 8]
     requires { IsKeyOf (cuts_of keys.now) vertex }
-    ensures { result ≡ intervals_round (cuts_of keys.now) vertex }
+    ensures value { result ≡ intervals_round (cuts_of keys.now) vertex }
+    ensures within { AreWithin (cuts_of keys.now) result }
+    ensures eight { length result ≡ 8 }
 {
     [
         interval_at(keys, vertex, 0),
@@ -61,29 +64,34 @@ fn meets(one: &Range, other: &Range) -> bool
     one.lo.max(other.lo) < one.hi.min(other.hi)
 }
 
-// Whether some of the intervals shares a position with a range.
-fn some_meets(intervals: &[Range; 8], range: &Range) -> bool
+// Whether some of these intervals shares a position with a range.
+fn some_meets(intervals: &[Range], range: &Range) -> bool
     ensures { result ≡ is_any_met range.now intervals.now }
 {
     intervals.iter().any(|interval| meets(interval, range))
 }
 
-/// Whether a vertex is sent to another tree, by the intervals of its adjacent positions.
-pub(crate) fn is_wanted(
+/// Whether another tree than the sender has a position of interval number `n`, and none of an earlier one.
+pub(crate) fn is_met_first(
     keys: &Keys,
     intervals: &[Range; 8],
-    vertex: VertexKey,
+    n: usize,
     tree: u32,
     other: u32,
 ) -> bool
-    requires intervals { intervals.now ≡ intervals_round (cuts_of keys.now) vertex }
+    requires eight { length intervals.now ≡ 8 }
+    requires place { n < 8 }
     requires other { other < (cuts_of keys.now).trees }
-    ensures { result ≡ is_sent (cuts_of keys.now) tree other vertex }
+    ensures { result ≡ is_met_first (cuts_of keys.now) tree intervals.now n other }
 {
     if other == tree {
         return false;
     }
-    some_meets(intervals, &keys.range(other))
+    let range = keys.range(other);
+    if some_meets(&intervals[..n], &range) {
+        return false;
+    }
+    meets(&intervals[n], &range)
 }
 
 /// The tree that owns the cell at an adjacent position; the tree itself where there is none.
