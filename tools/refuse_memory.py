@@ -1,6 +1,6 @@
 #!/usr/bin/env python3
 """Refuses the built program's requests for memory one by one, and checks each answer. Run by hand, after a build; it needs
-a C compiler (cc), for a library of twenty lines that stands before malloc and realloc.
+a C compiler, cc or the Rattle toolchain's, for a library of twenty lines that stands before malloc and realloc.
 
     tools/refuse_memory.py examples/single_cell.toml examples/centre_pulse.toml
     tools/refuse_memory.py --program crates/peano/out/peano --words '--trees 2' examples/refined_centre.toml
@@ -11,6 +11,7 @@ and write nothing. Ends with status 1 where an answer is another one.
 """
 import argparse
 import os
+import shutil
 import subprocess
 import sys
 import tempfile
@@ -19,30 +20,48 @@ import time
 TOP = os.path.join(os.path.dirname(os.path.abspath(__file__)), "..")
 
 SHIM = r"""
-#define _GNU_SOURCE
-#include <dlfcn.h>
-#include <stdio.h>
-#include <stdlib.h>
+void *dlsym(void *, const char *);
+void *fopen(const char *, const char *);
+int fprintf(void *, const char *, ...), fclose(void *);
+char *getenv(const char *);
+unsigned long strtoul(const char *, char **, int);
 static unsigned long asked, refused;
+static void *next(const char *name) { return dlsym((void *)-1, name); }
 static int is_refused(void) {
     if (!asked++) refused = getenv("REFUSED") ? strtoul(getenv("REFUSED"), 0, 10) : 0;
     return asked == refused;
 }
-void *malloc(size_t size) {
-    static void *(*real)(size_t);
-    if (!real) real = (void *(*)(size_t))dlsym(RTLD_NEXT, "malloc");
+void *malloc(unsigned long size) {
+    static void *(*real)(unsigned long);
+    if (!real) real = (void *(*)(unsigned long))next("malloc");
     return is_refused() ? 0 : real(size);
 }
-void *realloc(void *old, size_t size) {
-    static void *(*real)(void *, size_t);
-    if (!real) real = (void *(*)(void *, size_t))dlsym(RTLD_NEXT, "realloc");
+void *realloc(void *old, unsigned long size) {
+    static void *(*real)(void *, unsigned long);
+    if (!real) real = (void *(*)(void *, unsigned long))next("realloc");
     return is_refused() ? 0 : real(old, size);
 }
 __attribute__((destructor)) static void count(void) {
-    FILE *told = getenv("COUNTED") ? fopen(getenv("COUNTED"), "w") : 0;
+    void *told = getenv("COUNTED") ? fopen(getenv("COUNTED"), "w") : 0;
     if (told) { fprintf(told, "%lu", asked); fclose(told); }
 }
 """
+
+
+def compiler():
+    """A C compiler, with the words by which it makes a library."""
+    if shutil.which("cc"):
+        return ["cc", "-shared"]
+    page = subprocess.run(["rt", "doc"], capture_output=True, check=True, text=True).stdout.strip()
+    tools = os.path.join(os.path.dirname(page), "toolchain")
+    return [f"{tools}/bin/clang", "-shared", "-fuse-ld=lld", f"-B{tools}/bin", f"-L{tools}/lib", "-nostdlib"]
+
+
+def shim_in(folder):
+    """Builds the library that stands before malloc and realloc; its path."""
+    shim = os.path.join(folder, "shim.so")
+    subprocess.run([*compiler(), "-O1", "-fPIC", "-w", "-o", shim, "-xc", "-", "-xnone", "-lc"], input=SHIM.encode(), check=True)
+    return shim
 
 
 def run(command, path, shim, more):
@@ -93,8 +112,7 @@ def main():
     parser.add_argument("--words", default="", help="words of the command line, in one argument")
     given = parser.parse_args()
     with tempfile.TemporaryDirectory() as folder:
-        shim = os.path.join(folder, "shim.so")
-        subprocess.run(["cc", "-O1", "-shared", "-fPIC", "-o", shim, "-xc", "-", "-ldl"], input=SHIM.encode(), check=True)
+        shim = shim_in(folder)
         command = [given.program, *given.words.split()]
         sys.exit(sum(check(command, path, shim, folder) for path in given.files) > 0)
 

@@ -7,7 +7,7 @@ use Rattle.stack_law.proofs.Distinct.{not_in}
 use Rattle.sweep_streams.proofs.Lists.{same_length}
 use Rattle.sweep_streams.proofs.Pushes.{streams_are_stored}
 use Rattle.sweep_streams.specs.Counts.{ListsVertices, IsHeldVertex}
-use Rattle.sweep_streams.specs.Records.{ListsCells, in_grids, left_at}
+use Rattle.sweep_streams.specs.Records.{ListsCells, in_grids, entered_at, left_at}
 use Rattle.sweep_streams.proofs.Records.{each_held_cell_once}
 use Rattle.peano_keys.specs.declared.cell.CellKey.{CellKey}
 use Rattle.peano_keys.specs.declared.vertex.VertexKey.{VertexKey}
@@ -84,6 +84,10 @@ module _ (k : Cuts) (t : ℕ) (dir : Direction) (g : Spacetree) (fits : IsCutGri
   -- a leaf that the tree owns is one of them
   pub own_left : (c : CellKey) → OwnsLeaf k g t c → IsIn c left
   own_left c owned = is_left c (record { cell = owned.cell; there = leaf_there g c (record { cell = subst (λ d. IsCell d c) (sym fits.dim) owned.cell; leaf = owned.leaf }); held = owner_holds k t c owned.owns })
+
+  -- and it is entered
+  pub own_entered : (c : CellKey) → OwnsLeaf k g t c → IsIn c (flat_map entered_at (visits_of plan))
+  own_entered c owned = ((each_held_cell_once plan is_plan).0.members c).1 ((lists.members c).0 (own_left c owned))
 
   -- the corners that hang
   pub hanging_many : AreSoMany (HasHanging k g t) (length (flat_map (hanging_at g) left))

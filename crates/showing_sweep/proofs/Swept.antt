@@ -19,7 +19,7 @@ use Rattle.curve_cuts.specs.Enclave.{IsEnclave, IsSkeleton, OwnsLeaf}
 use Rattle.sweep_visits.specs.Moves.{moves_of, taken_by, put_by}
 use Rattle.sweep_visits.specs.Visits.{Visit, enter, leave, visits_of}
 use Rattle.sweep_streams.specs.Counts.{pushed_by}
-use Rattle.sweep_streams.specs.Records.{left_at}
+use Rattle.sweep_streams.specs.Records.{entered_at, left_at}
 use Rattle.vertex_stacks.specs.declared.kind.Kind.TheVariants as kind
 use Rattle.vertex_stacks.specs.Notes.{Note}
 use Rattle.tree_automaton.specs.declared.kinds.Serves.TheVariants.{Plain}
@@ -49,11 +49,11 @@ use Rattle.showing_sweep.specs.Counts.{AreSoMany, Counts, ListsAll}
 use Rattle.showing_sweep.specs.Sent.{IsPairOf, IsVertexOf}
 use Rattle.showing_sweep.specs.Shown.{Amounts, AreAmounts, IsRowOf, IsTraffic}
 use Rattle.showing_sweep.specs.Shows.{ShowWork, ShowEnters, ShowLeaves, nothing_counted}
-use Rattle.showing_sweep.proofs.Found.{AreCounted, all_found}
+use Rattle.showing_sweep.proofs.Found.{AreCounted, AreFound, all_found}
 use Rattle.showing_sweep.proofs.Hanging.{hanging_at}
 use Rattle.showing_sweep.proofs.Moved.{corners_add_up}
-use Rattle.showing_sweep.proofs.Amounts.{cells_many, hanging_many, own_left, put_many, sent_many}
-use Rattle.showing_sweep.proofs.Calls.{Gathers, all_shown, itself, row_home}
+use Rattle.showing_sweep.proofs.Amounts.{cells_many, hanging_many, own_entered, own_left, put_many, sent_many}
+use Rattle.showing_sweep.proofs.Calls.{AreCounts, IsSoFar, all_shown, itself, row_home}
 
 -- what the visitor of a showing sweep means
 abbrev pub showing_meaning : Dim → Meaning
@@ -122,16 +122,21 @@ module _ (start end : ShowWork) (dir : Direction) (g : Spacetree) (f : States) (
       (plain_swept ShowEnters ShowLeaves k start.tree p step kind.Show s t start end note (λ c x y. y ≡ x) tree refl each_visit v has))
       (λ n c below at is same. subst (AtRest g (value_of g f) c) (sym same) is)
 
-  -- what was gathered in all calls
-  gathered : Gathers start g dir f s.tree task on.grid s.lanes.input s.lanes.tale tree.gives.calls tree.gives.visits_are tree.gives.fit (flat_map left_at (visits_of p.plan)) end.rows end.counts
-  gathered = subst (λ vs. Gathers start g dir f s.tree task on.grid s.lanes.input s.lanes.tale tree.gives.calls tree.gives.visits_are tree.gives.fit (flat_map left_at vs) end.rows end.counts) tree.gives.visits_are
-      (all_shown start g dir f s.tree task on.grid s.lanes.input s.lanes.tale tree.gives.calls tree.gives.visits_are tree.gives.fit end no_rows nothing tree.gives.chain).gathers
+  -- what was gathered and counted in all calls
+  shown : IsSoFar start g dir f s.tree task on.grid s.lanes.input s.lanes.tale tree.gives.calls tree.gives.visits_are tree.gives.fit tree.gives.calls end
+  shown = all_shown start g dir f s.tree task on.grid s.lanes.input s.lanes.tale tree.gives.calls tree.gives.visits_are tree.gives.fit end no_rows nothing tree.gives.chain
+
+  rows_found : AreFound row_home (IsRowOf k g f start.tree) (flat_map entered_at (visits_of p.plan)) end.rows
+  rows_found = subst (λ vs. AreFound row_home (IsRowOf k g f start.tree) (flat_map entered_at vs) end.rows) tree.gives.visits_are shown.rows_are
+
+  counted : AreCounts start g dir f s.tree task on.grid s.lanes.input s.lanes.tale tree.gives.calls tree.gives.visits_are tree.gives.fit (flat_map left_at (visits_of p.plan)) end.counts
+  counted = subst (λ vs. AreCounts start g dir f s.tree task on.grid s.lanes.input s.lanes.tale tree.gives.calls tree.gives.visits_are tree.gives.fit (flat_map left_at vs) end.counts) tree.gives.visits_are shown.counted
 
   tree_below : start.tree < k.trees
   tree_below = subst (λ n. n < k.trees) (sym same_tree) on.tree
 
   pub rows_shown : ListsAll (IsRowOf k g f start.tree) end.rows
-  rows_shown = all_found row_home (IsRowOf k g f start.tree) (IsRowOf k g f start.tree) (flat_map left_at (visits_of p.plan)) end.rows gathered.rows_are (λ r. ((λ h. h.1), (λ h. (own_left k start.tree dir g on.grid tree_below r.key h.owned, h))))
+  rows_shown = all_found row_home (IsRowOf k g f start.tree) (IsRowOf k g f start.tree) (flat_map entered_at (visits_of p.plan)) end.rows rows_found (λ r. ((λ h. h.1), (λ h. (own_entered k start.tree dir g on.grid tree_below r.key h.owned, h))))
 
   -- leaves of one kind
   leaves_many : (P : CellKey → Type 0) (n : ℕ) → ((c : CellKey) → P c → OwnsLeaf k g start.tree c) → (counted : AreCounted itself P (flat_map left_at (visits_of p.plan)) n) → AreSoMany P (length counted.things)
@@ -148,8 +153,8 @@ module _ (start end : ShowWork) (dir : Direction) (g : Spacetree) (f : States) (
       stored = length (put_by (moves_of p.plan));
       pushes = length (pushed_by (moves_of p.plan));
       hanging = length (flat_map (hanging_at g) (flat_map left_at (visits_of p.plan)));
-      enclave = length gathered.enclave.things;
-      skeleton = length gathered.skeleton.things;
+      enclave = length counted.enclave.things;
+      skeleton = length counted.skeleton.things;
       sent = pairs.many;
     }
 
@@ -158,8 +163,8 @@ module _ (start end : ShowWork) (dir : Direction) (g : Spacetree) (f : States) (
       cells = cells_many k start.tree dir g on.grid tree_below;
       stored = put_many k start.tree dir g on.grid tree_below;
       hanging = hanging_many k start.tree dir g on.grid tree_below;
-      enclave = leaves_many (IsEnclave k g start.tree) end.counts.enclave (λ c h. h.0) gathered.enclave;
-      skeleton = leaves_many (IsSkeleton k g start.tree) end.counts.skeleton (λ c h. h.0) gathered.skeleton;
+      enclave = leaves_many (IsEnclave k g start.tree) end.counts.enclave (λ c h. h.0) counted.enclave;
+      skeleton = leaves_many (IsSkeleton k g start.tree) end.counts.skeleton (λ c h. h.0) counted.skeleton;
       sent = sent_many k start.tree dir g on.grid tree_below pairs.many pairs.are;
       pushes = subst (λ d. amounts.pushes + amounts.hanging + amounts.stored ≡ amounts.cells * corners d) on.grid.dim (corners_add_up k.depth (range_of k start.tree) dir g);
     }
@@ -171,5 +176,5 @@ module _ (start end : ShowWork) (dir : Direction) (g : Spacetree) (f : States) (
     traffic_told = record {
       amounts = amounts;
       are = are_amounts;
-      told = same_traffic (told_by end note) _ refl gathered.cells_are (ap (λ (n : Note). n.put) tree.gives.note_is) (ap (λ (n : Note). n.pushed) tree.gives.note_is) gathered.hanging gathered.enclave.told gathered.skeleton.told pairs.told;
+      told = same_traffic (told_by end note) _ refl counted.cells_are (ap (λ (n : Note). n.put) tree.gives.note_is) (ap (λ (n : Note). n.pushed) tree.gives.note_is) counted.hanging counted.enclave.told counted.skeleton.told pairs.told;
     }

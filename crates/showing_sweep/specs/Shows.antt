@@ -1,5 +1,6 @@
 -- What the visitor of a showing sweep does.
 use Rattle.std.specs.Prelude.{◌≡◌, ◌⊎◌, ◌↔◌, ℕ, ◌+◌, Bool, true, false, IsTrue, IsFalse, List, [], ◌∷◌, ◌++◌, count_by, Some}
+use Rattle.std.specs.FinSet as set
 use Rattle.peano_keys.specs.declared.dim.Dim.{Dim}
 use Rattle.peano_keys.specs.Grid.{Spacetree}
 use Rattle.peano_records.specs.declared.view.Corner.{Corner}
@@ -10,6 +11,8 @@ use Rattle.vertex_stacks.specs.Tales.{capped}
 use Rattle.curve_cuts.specs.Keys.{CutPoints, cuts_of}
 use Rattle.curve_cuts.specs.Enclave.{OwnsLeaf, IsEnclave, IsSkeleton}
 use Rattle.spacetree.specs.declared.row.Row.{Row}
+use Rattle.tree_automaton.specs.declared.kinds.Serves.TheVariants.{Plain}
+use Rattle.tree_automaton.specs.Promises.{Meaning}
 use Rattle.tree_automaton.specs.Views.{value_at_home}
 use Rattle.step_sweeps.specs.Kernels.{IsOwnLeaf}
 use Rattle.showing_sweep.specs.declared.counts.CellCounts.{CellCounts}
@@ -20,6 +23,10 @@ pub record ShowWork : Type 0 where
   pub tree : ℕ
   pub rows : List Row
   pub counts : CellCounts
+
+-- its visitor serves sweeps that change nothing, foresees no grid, may want memory and holds no loan
+abbrev pub show_meaning : ShowWork → Meaning
+show_meaning a = record { serves = Plain; dim = a.keys.dim; new_grid = record { dim = a.keys.dim; refined = set.empty }; may_want = true; loan = 0 }
 
 -- the counts as a sweep begins
 abbrev pub nothing_counted : CellCounts
@@ -54,21 +61,31 @@ pub record DecidesEnclave (keys : CutPoints) (t : ℕ) (v : CellView) (b : Bool)
   pub skeleton : (g : Spacetree) → g.dim ≡ keys.dim → Shows keys.dim (Some g) g false v → OwnsLeaf (cuts_of keys) g t v.key → IsFalse b ↔ IsSkeleton (cuts_of keys) g t v.key
 
 -- a leaf of the tree gives a row
-pub record LeafShown (a : ShowWork) (v : CellView) (b : ShowWork) : Type 0 where
+pub record LeafGathered (a : ShowWork) (v : CellView) (b : ShowWork) : Type 0 where
+  pub own : IsOwnLeaf (cuts_of a.keys) a.tree v
+  pub gathered : b ≡ record a { rows = a.rows ++ row_in a.keys.dim v ∷ [] }
+
+-- any other cell gives none
+pub record NoneGathered (a : ShowWork) (v : CellView) (b : ShowWork) : Type 0 where
+  pub other : ¬ IsOwnLeaf (cuts_of a.keys) a.tree v
+  pub same : b ≡ a
+
+-- a leaf of the tree is counted as a cell and as one of its kind
+pub record LeafCounted (a : ShowWork) (v : CellView) (b : ShowWork) : Type 0 where
   pub own : IsOwnLeaf (cuts_of a.keys) a.tree v
   pub enclave : Bool
   pub decides : DecidesEnclave a.keys a.tree v enclave
-  pub shown : b ≡ record a { rows = a.rows ++ row_in a.keys.dim v ∷ []; counts = with_leaf enclave (with_cell v a.counts) }
+  pub counted : b ≡ record a { counts = with_leaf enclave (with_cell v a.counts) }
 
 -- any other cell is counted alone
-pub record OtherShown (a : ShowWork) (v : CellView) (b : ShowWork) : Type 0 where
+pub record OtherCounted (a : ShowWork) (v : CellView) (b : ShowWork) : Type 0 where
   pub other : ¬ IsOwnLeaf (cuts_of a.keys) a.tree v
-  pub shown : b ≡ record a { counts = with_cell v a.counts }
+  pub counted : b ≡ record a { counts = with_cell v a.counts }
 
--- as a cell is entered nothing is done
+-- as a cell is entered its row is gathered, and its view stays
 abbrev pub ShowEnters : ShowWork → CellView → CellView → ShowWork → Type 0
-ShowEnters a v w b = (w ≡ v) × (b ≡ a)
+ShowEnters a v w b = (w ≡ v) × (LeafGathered a v b ⊎ NoneGathered a v b)
 
--- as it is left it is shown, and its view stays
+-- as it is left it is counted, and its view stays
 abbrev pub ShowLeaves : ShowWork → CellView → CellView → ShowWork → Type 0
-ShowLeaves a v w b = (w ≡ v) × (LeafShown a v b ⊎ OtherShown a v b)
+ShowLeaves a v w b = (w ≡ v) × (LeafCounted a v b ⊎ OtherCounted a v b)

@@ -1,9 +1,9 @@
 //! The visitor of the showing sweep.
-ghost use Rattle.std.specs.Prelude.{◌≡◌, ◌<◌, [], true};
-ghost use Rattle.std.specs.FinSet as set;
+ghost use Rattle.std.specs.Prelude.{◌≡◌, ◌<◌, [], true, OnOk, IsOk};
 ghost use Rattle.curve_cuts.specs.Keys.{cuts_of};
 ghost use Rattle.tree_automaton.specs.declared.kinds.Serves.TheVariants.{Plain};
-ghost use Rattle.showing_sweep.specs.Shows.{ShowEnters, ShowLeaves, nothing_counted};
+ghost use Rattle.tree_automaton.specs.Promises.{IsViewIn, Keeps, MayLeave};
+ghost use Rattle.showing_sweep.specs.Shows.{ShowEnters, ShowLeaves, nothing_counted, show_meaning};
 
 use crate::counts::CellCounts;
 use crate::rows::row_in;
@@ -16,8 +16,8 @@ use std::marker::Model;
 use step_sweeps::is_own_leaf;
 use tree_automaton::Visitor;
 
-/// Gathers the rows of the leaves that a tree owns and counts the cells that it holds, as they are left. Changes no view;
-/// takes memory for rows alone.
+/// Gathers the rows of the leaves that a tree owns, as they are entered, and counts the cells that it holds, as they are
+/// left. Changes no view; takes memory for rows alone, so that no leave is refused.
 #[derive(Drop)]
 pub struct Show<'a> {
     keys: &'a Keys,
@@ -73,7 +73,7 @@ impl<'a> Show<'a> {
 }
 
 impl<'a> Visitor for Show<'a> {
-    ghost meaning = { λ s. record { serves = Plain; dim = s.keys.dim; new_grid = record { dim = s.keys.dim; refined = set.empty }; may_want = true; loan = 0 } };
+    ghost meaning = { show_meaning };
 
     ghost entered = { ShowEnters };
 
@@ -83,19 +83,29 @@ impl<'a> Visitor for Show<'a> {
         matches!(cell.was, Some(true))
     }
 
-    fn enter(&mut self, _: &mut CellView) -> Result<(), AllocError> {
+    fn enter(&mut self, cell: &mut CellView) -> Result<(), AllocError> {
+        if !is_own_leaf(self.keys, self.tree, cell) {
+            return Ok(());
+        }
+        self.rows.push(row_in(self.keys.dim(), cell))?;
         Ok(())
     }
 
-    fn leave(&mut self, cell: &mut CellView) -> Result<(), AllocError> {
+    // No leave is refused: the row of a leaf was gathered as it was entered.
+    fn leave(&mut self, cell: &mut CellView) -> Result<(), AllocError>
+        requires { IsViewIn (show_meaning self.old).dim cell.old }
+        ensures keeps { Keeps cell.old cell.new }
+        ensures slots { MayLeave Plain (show_meaning self.old).new_grid cell.old cell.new }
+        ensures done { OnOk result (ShowLeaves self.old cell.old cell.new self.new) }
+        ensures memory { IsOk result }
+        ensures same { show_meaning self.new ≡ show_meaning self.old }
+    {
         let counts = self.counts.with_cell(cell);
         if !is_own_leaf(self.keys, self.tree, cell) {
             self.counts = counts;
             return Ok(());
         }
-        let enclave = is_enclave(cell, self.keys, self.tree);
-        self.rows.push(row_in(self.keys.dim(), cell))?;
-        self.counts = counts.with_leaf(enclave);
+        self.counts = counts.with_leaf(is_enclave(cell, self.keys, self.tree));
         Ok(())
     }
 }

@@ -2,3 +2,4 @@ pub mod Lists
 pub mod Over
 pub mod Told
 pub mod Raised
+mod Corners

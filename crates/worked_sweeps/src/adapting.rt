@@ -9,7 +9,7 @@ ghost use Rattle.worked_sweeps.specs.Trees.{IsTreeBefore, IsTreeOver, LeadsTo};
 
 use crate::grids::{Wish, field_of, next_of, opened};
 use crate::intending::intend;
-use crate::trees::{counts, expect_cut, keys_of, raise, wrong_slots};
+use crate::trees::{counts, expect_cut, expect_refused, keys_of, raise, wrong_slots};
 use adapt_sweep::{NewGrid, adapt_tree};
 use curve_cuts::Keys;
 use peano_keys::Dim;
@@ -52,7 +52,7 @@ fn lead(
 }
 
 // Adapts a tree as is wished, and compares what moved and what the tree has then.
-fn compare_step(
+pub(crate) fn compare_step(
     rt: &impl Abort,
     alloc: Global,
     store: &mut TreeStore,
@@ -74,7 +74,14 @@ fn compare_step(
     let (next, after) = next_of(alloc, grid, field, wish)?;
     expect_cut(rt, &next, keys);
     intend(rt, store, keys, grid, &next);
-    let note = lead(store, keys, grid, &next)?;
+    let before = store.tale();
+    let note = match lead(store, keys, grid, &next) {
+        Ok(note) => note,
+        Err(refused) => {
+            expect_refused(rt, store, &before);
+            return Err(refused);
+        }
+    };
     let [taken, put, pushed, leaves, cells] = want;
     assert_eq!(rt;
         counts(store, &note),

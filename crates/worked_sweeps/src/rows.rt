@@ -7,7 +7,7 @@ ghost use Rattle.tree_automaton.specs.AtRest.{StandsFor};
 
 use crate::grids::{field_of, opened};
 use crate::showing::expect_one;
-use crate::trees::{expect_cut, keys_of, raise};
+use crate::trees::{expect_cut, expect_refused, keys_of, raise};
 use curve_cuts::Keys;
 use field_report::Traffic;
 use peano_keys::{Dim, State};
@@ -80,7 +80,41 @@ fn traffic_of([cells, stored, pushes, hanging, enclave, skeleton]: [u64; 6]) -> 
     }
 }
 
-// Raises a tree that has all, shows it, and compares its rows, its traffic and its note.
+// Shows a tree that has all, and compares its rows, its traffic and its note.
+pub(crate) fn show_rows(
+    rt: &impl Abort,
+    alloc: Global,
+    store: &mut TreeStore,
+    grid: &Grid,
+    field: &Field,
+    keys: &Keys,
+    want: [u64; 6],
+) -> Result<Vec<Row>, AllocError>
+    requires cut { IsCutGrid (cuts_of keys.now) grid.now }
+    requires depth { keys.now.depth ≡ 2 }
+    requires alone { (cuts_of keys.now).trees ≡ 1 }
+    requires field { IsFieldOn 1 grid.now field.now }
+    requires stands { StandsFor 2 (range_of (cuts_of keys.now) 0) 0 store.old.dir grid.now field.now store.old }
+{
+    let before = store.tale();
+    let (note, shown) = match show(alloc, store, grid, field, keys) {
+        Ok(shown) => shown,
+        Err(refused) => {
+            expect_refused(rt, store, &before);
+            return Err(refused);
+        }
+    };
+    assert_eq!(rt; shown.traffic, traffic_of(want));
+    assert!(rt; matches!(note.kind(), Kind::Show));
+    assert_eq!(rt;
+        [note.taken(), note.put(), note.pushed()],
+        [want[1], want[1], want[2]]
+    );
+    expect_rows(rt, &shown.rows, grid, field);
+    Ok(shown.rows)
+}
+
+// Raises a tree that has all, and shows it.
 fn compare_rows(
     rt: &impl Abort,
     alloc: Global,
@@ -96,15 +130,7 @@ fn compare_rows(
     expect_one(rt, &keys);
     expect_cut(rt, &grid, &keys);
     let (mut store, _) = raise(rt, alloc, &grid, &field, &keys, 0)?;
-    let (note, shown) = show(alloc, &mut store, &grid, &field, &keys)?;
-    assert_eq!(rt; shown.traffic, traffic_of(want));
-    assert!(rt; matches!(note.kind(), Kind::Show) && store.is_live());
-    assert_eq!(rt;
-        [note.taken(), note.put(), note.pushed()],
-        [want[1], want[1], want[2]]
-    );
-    expect_rows(rt, &shown.rows, &grid, &field);
-    Ok(shown.rows)
+    show_rows(rt, alloc, &mut store, &grid, &field, &keys, want)
 }
 
 // The traffic of nine leaves, of the refined centre, and of the same in space.

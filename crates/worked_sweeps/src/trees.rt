@@ -15,7 +15,7 @@ use spacetree::{Field, Grid};
 use std::alloc::{AllocError, Global};
 use std::process::Abort;
 use tree_automaton::TreeStore;
-use vertex_stacks::SweepNote;
+use vertex_stacks::{SweepNote, Tale};
 
 // The keys of so many trees, with equal shares of some leaves.
 fn keys_over(
@@ -55,6 +55,12 @@ pub(crate) fn expect_cut(rt: &impl Abort, grid: &Grid, keys: &Keys)
     assert!(rt; keys.trees() >= 1);
 }
 
+// A store that was refused memory in a sweep is not live, and its tale is as before.
+pub(crate) fn expect_refused(rt: &impl Abort, store: &TreeStore, before: &Tale) {
+    assert!(rt; !store.is_live());
+    assert_eq!(rt; store.tale(), *before);
+}
+
 // Raises one of the trees.
 pub(crate) fn raise(
     rt: &impl Abort,
@@ -71,8 +77,14 @@ pub(crate) fn raise(
     expect_cut(rt, grid, keys);
     expect_tree(rt, keys, tree);
     let mut store = TreeStore::new(alloc, grid.dim(), 2, keys.range(tree), tree);
-    let note = raise_tree(&mut store, grid, field, keys, 0)?;
-    Ok((store, note))
+    let before = store.tale();
+    match raise_tree(&mut store, grid, field, keys, 0) {
+        Ok(note) => Ok((store, note)),
+        Err(refused) => {
+            expect_refused(rt, &store, &before);
+            Err(refused)
+        }
+    }
 }
 
 // What a store and the note of its last sweep count: what was taken, put and pushed; the leaves that the tree owns, the
