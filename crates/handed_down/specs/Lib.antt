@@ -1,0 +1,4 @@
+pub mod Ages
+pub mod Across
+pub mod Stored
+pub mod Laws
