@@ -1,5 +1,5 @@
 -- Words ask for one thing at most.
-use Rattle.std.proofs.Common.{◌≡◌, ℕ, List, Some, None, ap, sym, ◌∙◌, subst}
+use Rattle.std.proofs.Common.{◌≡◌, ℕ, List, Some, None, sym, ◌∙◌, subst}
 use Rattle.std.specs.Prelude.{Result, Ok, Err}
 use Rattle.std.specs.Result.{IsErrAnd}
 use Rattle.command_line.specs.declared.words.WordsFault.{WordsFault}
@@ -22,9 +22,12 @@ one_for w (File r) (File s) h g =
     let trees : r.trees ≡ s.trees = h.2 ∙ sym g.2 in
     let show : r.show ≡ s.show = h.3 ∙ sym g.3 in
     λ i. File (record { trees = trees i; show = show i })
-one_for w (File r) (Demo n) h g = absurd (none_some n (sym h.1 ∙ g.1))
-one_for w (Demo n) (File r) h g = absurd (none_some n (sym g.1 ∙ h.1))
-one_for w (Demo n) (Demo m) h g = ap Demo (some_is n m (sym h.1 ∙ g.1))
+one_for w (File r) (Demo n trees) h g = absurd (none_some n (sym h.1 ∙ g.1))
+one_for w (Demo n trees) (File r) h g = absurd (none_some n (sym g.1 ∙ h.1))
+one_for w (Demo n trees) (Demo m others) h g =
+    let numbers : n ≡ m = some_is n m (sym h.1 ∙ g.1) in
+    let counts : trees ≡ others = h.2 ∙ sym g.2 in
+    λ i. Demo (numbers i) (counts i)
 
 pub one_asked : (words : List Text) (a b : Asked) → Asks words a → Asks words b → a ≡ b
 one_asked words a b h g =

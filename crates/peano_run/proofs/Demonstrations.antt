@@ -10,14 +10,13 @@ use Rattle.peano_keys.specs.declared.state.State.{State}
 use Rattle.peano_keys.specs.Cell.{IsCell, centre_child, centre_digits, key_cmp, root}
 use Rattle.peano_keys.specs.Grid.{Spacetree, IsGrid, is_refined, has_cell}
 use Rattle.peano_keys.specs.Field.{States}
-use Rattle.solver_api.specs.Step.{IsLeafOf}
+use Rattle.solver_api.specs.Step.{IsLeafOf, Overflows}
 use Rattle.spacetree.specs.Fields.{IsFieldOn, row_of, rows_of}
 use Rattle.spacetree.specs.declared.row.Row.{Row}
 use Rattle.volume_solver.specs.Any.{parts_in, updated_by, marked_by}
-use Rattle.spacetree.specs.declared.fault.EvalFault.TheVariants as Faults
 use Rattle.spacetree.specs.Counts.{cells_of}
 use Rattle.spacetree.specs.Opening.{Opens, OpensField}
-use Rattle.spacetree.specs.Evaluation.{Evaluates, EndsIn}
+use Rattle.spacetree.specs.Evaluation.{Evaluates, Crowds}
 use Rattle.field_report.specs.Summary.{IsSummary}
 use Rattle.grid_file.specs.declared.plan.Plan.{Plan}
 use Rattle.demonstration.specs.Demo.{demo}
@@ -73,12 +72,12 @@ module _ (n : ℕ) (plan : Plan) (same : plan ≡ demo n) (t : Spacetree) (f : S
   }
 
   -- and none of these steps is refused
-  pub no_overflow : (step : ℕ) (c : CellKey) → EndsIn (updated_by plan.solver) (marked_by plan.solver) t f plan.steps (Faults.Overflow step c) → ⊥
-  no_overflow step c ends =
-      let told = subst (λ (p : Plan). EndsIn (updated_by p.solver) (marked_by p.solver) t f p.steps (Faults.Overflow step c)) same ends in
-      (never_refused n 20 t f begins).0 step c told.0 told.1
+  pub no_overflow : (step : ℕ) (u : Spacetree) (g : States) (c : CellKey) → Evaluates (updated_by plan.solver) (marked_by plan.solver) t f step u g → Overflows (updated_by plan.solver) u g c → ⊥
+  no_overflow step u g c told over =
+      let leads = subst (λ (p : Plan). Evaluates (updated_by p.solver) (marked_by p.solver) t f step u g) same told in
+      (never_refused n (suc step) t f begins).0 (suc step) c (omega arith) (u, g, leads, subst (λ (p : Plan). Overflows (updated_by p.solver) u g c) same over)
 
-  pub no_crowd : (step cells : ℕ) → EndsIn (updated_by plan.solver) (marked_by plan.solver) t f plan.steps (Faults.Crowded step cells) → ⊥
-  no_crowd step cells ends =
-      let told = subst (λ (p : Plan). EndsIn (updated_by p.solver) (marked_by p.solver) t f p.steps (Faults.Crowded step cells)) same ends in
-      (never_refused n 20 t f begins).1 step cells told.0 told.1
+  pub no_crowd : (step : ℕ) (u : Spacetree) (g : States) (cells : ℕ) → Evaluates (updated_by plan.solver) (marked_by plan.solver) t f step u g → Crowds (updated_by plan.solver) (marked_by plan.solver) u g cells → ⊥
+  no_crowd step u g cells told crowds =
+      let leads = subst (λ (p : Plan). Evaluates (updated_by p.solver) (marked_by p.solver) t f step u g) same told in
+      (never_refused n (suc step) t f begins).1 (suc step) cells (omega arith) (u, g, leads, subst (λ (p : Plan). Crowds (updated_by p.solver) (marked_by p.solver) u g cells) same crowds)

@@ -1,15 +1,15 @@
 -- What the words of a command line ask for, as far as it is served.
-use Rattle.std.specs.Prelude.{◌≡◌, ◌≤◌, List, Option, None, Some}
+use Rattle.std.specs.Prelude.{◌≡◌, ℕ, ◌≤◌, List, Option, None, Some}
 use Rattle.command_line.specs.declared.words.Words.{Words}
 use Rattle.command_line.specs.CommandLine.{Text, Means}
 use Rattle.peano_run.specs.declared.asked.Asked.{Asked}
 use Rattle.peano_run.specs.declared.asked.Asked.TheVariants.{File, Demo}
 use Rattle.peano_run.specs.declared.asked.Request.{Request}
 
--- settings ask for a file by so many trees, with what is shown of it, or for the demonstration of a number, by one tree. No helpers are served yet.
+-- settings ask for a file by so many trees, with what is shown of it, or for the demonstration of a number by so many trees. No helpers are served yet.
 abbrev pub AsksFor : Words → Asked → Type 0
 AsksFor w (File r) = (w.workers ≡ 0) × (w.demo ≡ None) × (r.trees ≡ w.trees) × (r.show ≡ w.show)
-AsksFor w (Demo n) = (w.workers ≡ 0) × (w.demo ≡ Some n) × (w.trees ≡ 1)
+AsksFor w (Demo n trees) = (w.workers ≡ 0) × (w.demo ≡ Some n) × (trees ≡ w.trees)
 
 -- what settings ask for, if it is served
 abbrev pub AsksNow : Words → Option Asked → Type 0
@@ -30,11 +30,11 @@ AreRefused words = (asked : Asked) → ¬ Asks words asked
 abbrev pub AskForNoFile : List Text → Type 0
 AskForNoFile words = (r : Request) → ¬ Asks words (File r)
 
--- a file is run by 1 to 64 trees
-pub record IsRequest (r : Request) : Type 0 where
-  pub some : 1 ≤ r.trees
-  pub most : r.trees ≤ 64
+-- there are 1 to 64 trees
+pub record IsTreeCount (n : ℕ) : Type 0 where
+  pub some : 1 ≤ n
+  pub most : n ≤ 64
 
 abbrev pub HasTrees : Asked → Type 0
-HasTrees (File r) = IsRequest r
-HasTrees (Demo n) = Unit {0}
+HasTrees (File r) = IsTreeCount r.trees
+HasTrees (Demo n trees) = IsTreeCount trees

@@ -1,6 +1,8 @@
 pub mod Asked
 pub mod Texts
 pub mod Report
+pub mod Left
+pub mod Led
 pub mod Demonstrated
 pub mod Course
 pub mod Run

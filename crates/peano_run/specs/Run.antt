@@ -1,15 +1,16 @@
 -- What a run does to its source and its sinks, by the answer that it ends with.
-use Rattle.std.specs.Prelude.{◌≡◌, ℕ, ◌+◌, ◌<◌, ◌≤◌, Bool, true, List, [], length, take, ⊤, Option, Some, None, Vec, Result, Ok, Err}
-use Rattle.std.specs.declared.alloc.Global.{Global}
+use Rattle.std.specs.Prelude.{◌≡◌, ℕ, ◌+◌, ◌<◌, ◌≤◌, Bool, true, List, [], length, take, ⊤, Option, Some, None, Result, Ok, Err}
 use Rattle.std.specs.Io.KnownBytes.{Consumes, Appends}
 use Rattle.peano_keys.specs.declared.dim.Dim.{Dim}
 use Rattle.peano_io.specs.Causes.{Rose}
 use Rattle.peano_run.specs.declared.answer.Answer.{Answer}
 use Rattle.peano_run.specs.declared.answer.Answer.TheVariants.{Done, Usage, ReadFault, TooLong, Overflow, WriteFault, NoMemory}
 use Rattle.peano_run.specs.declared.asked.Request.{Request}
+use Rattle.peano_run.specs.declared.course.Course.{Course}
 use Rattle.peano_run.specs.declared.ending.Ending.{Ending}
 use Rattle.peano_run.specs.Texts.{text_of}
 use Rattle.peano_run.specs.Report.{IsReport, IsRefused, OfPlan, longest_input}
+use Rattle.peano_run.specs.Left.{EndsAtLast, LeavesBy}
 
 -- the source lost a prefix of so many bytes
 pub record LosesOf (P : ℕ → Type 0) (before after : Option (List ℕ)) : Type 0 where
@@ -87,15 +88,19 @@ abbrev pub NamesIn : Dim → Answer → Option (List ℕ) → Type 0
 NamesIn dim (Overflow step leaf) (Some bytes) = OfPlan bytes (λ plan. plan.shape.dim ≡ dim)
 NamesIn dim _ input = ⊤
 
--- what an ending of a run says of the file: its refusal has its cause, and it names a leaf in the plan's dimension
+-- what an ending of a run says of the file: its refusal has its cause, it names a leaf in the plan's dimension, and the world is the one that is left
 abbrev pub EndsBy : Request → Ending → List ℕ → Type 0
-EndsBy r ending bytes = IsRefused r bytes ending.answer × NamesIn ending.dim ending.answer (Some bytes)
+EndsBy r ending bytes = IsRefused r bytes ending.answer × NamesIn ending.dim ending.answer (Some bytes) × LeavesBy r ending.answer (Some bytes) ending.world
 
--- reading and reporting: the report of the input, where the source tells it, or the answer that stands in its place
-abbrev pub Reports : Request → Option (List ℕ) → Option (List ℕ) → Bool → ℕ → ℕ → Result (Vec ℕ Global) Ending → Type 0
-Reports r None after ended faults now (Ok text) = IsReadWhole None after ended × (now ≡ faults)
-Reports r (Some bytes) after ended faults now (Ok text) = IsReport r bytes text.items × IsReadWhole (Some bytes) after ended × (now ≡ faults)
-Reports r before after ended faults now (Err ending) = RefusalBy r ending.answer before × ReadsBy ending.answer before after ended × ReadFaultRose ending.answer faults now × IsEarly ending.answer × NamesIn ending.dim ending.answer before
+-- a course to the end of a file's plan: it has the report, and its world is at the last grid and field
+abbrev pub EndsAtReport : Request → List ℕ → Course → Type 0
+EndsAtReport r bytes course = IsReport r bytes course.text.items × OfPlan bytes (λ plan. EndsAtLast r.trees plan course.world)
+
+-- reading and reporting: the course to the report of the input, where the source tells it, or the answer that stands in its place
+abbrev pub Reports : Request → Option (List ℕ) → Option (List ℕ) → Bool → ℕ → ℕ → Result Course Ending → Type 0
+Reports r None after ended faults now (Ok course) = IsReadWhole None after ended × (now ≡ faults)
+Reports r (Some bytes) after ended faults now (Ok course) = EndsAtReport r bytes course × IsReadWhole (Some bytes) after ended × (now ≡ faults)
+Reports r before after ended faults now (Err ending) = RefusalBy r ending.answer before × ReadsBy ending.answer before after ended × ReadFaultRose ending.answer faults now × IsEarly ending.answer × NamesIn ending.dim ending.answer before × LeavesBy r ending.answer before ending.world
 
 -- a text was written whole, or in part where the count of faults rose
 pub data Tells (text : List ℕ) (before after : Option (List ℕ)) (faults now : ℕ) : Type 0 where

@@ -1,9 +1,13 @@
 //! How a run ended.
 ghost use Rattle.std.specs.Prelude.{◌≡◌};
 ghost use Rattle.peano_run.specs.Texts.{status_of};
+ghost use Rattle.peano_run.specs.Left.{notes_of};
 
 use grid_file::Place;
 use peano_keys::CellKey;
+use step_driver::World;
+use vertex_stacks::SweepNote;
+use volume_solver::AnySolver;
 
 /// What a limit counts: the cells of the opening grid, or the leaf lines of the report.
 #[derive(Clone, Copy, Debug, PartialEq, Eq)]
@@ -37,11 +41,26 @@ pub enum Answer {
     NoMemory,
 }
 
-/// What a run leaves: the status that the program ends with, and the answer.
-#[derive(Clone, Copy, Debug, PartialEq, Eq)]
+/// What a run leaves: the status that the program ends with, the answer, and the world that ran. The world is there where
+/// the run is done, where a write failed, and where a step was refused or a report has too many lines; it is not where no
+/// plan was run or memory ran out.
+#[derive(Drop)]
 pub struct Outcome {
     pub status: u8,
     pub answer: Answer,
+    pub world: Option<World<AnySolver>>,
+}
+
+impl Outcome {
+    /// The notes of the world's sweeps in their order; none where there is no world.
+    pub fn notes(&self) -> &[SweepNote]
+        ensures { result.now ≡ notes_of self.now.world }
+    {
+        match &self.world {
+            Some(world) => world.notes(),
+            None => &[],
+        }
+    }
 }
 
 impl Answer {

@@ -12,31 +12,30 @@ pub struct Request {
     pub show: ShowWhat,
 }
 
-/// What is asked for: the report of a file, or the demonstration of a number.
+/// What is asked for: the report of a file, or the demonstration of a number by so many trees, 1 to 64.
 #[derive(Clone, Copy, Debug, PartialEq, Eq)]
 pub enum Asked {
     File(Request),
-    Demo(u64),
+    Demo { number: u64, trees: u32 },
 }
 
-// What settings ask for, if it is served: helpers are not yet, nor demonstrations by more trees than one.
+// What settings ask for, if it is served: helpers are not yet.
 fn asked_by(words: &Words) -> Option<Asked>
     ensures { AsksNow words.now result }
 {
     if words.workers > 0 {
         return None;
     }
-    let Some(n) = words.demo else {
-        return Some(Asked::File(Request {
+    Some(match words.demo {
+        Some(number) => Asked::Demo {
+            number,
+            trees: words.trees,
+        },
+        None => Asked::File(Request {
             trees: words.trees,
             show: words.show,
-        }));
-    };
-    if words.trees == 1 {
-        Some(Asked::Demo(n))
-    } else {
-        None
-    }
+        }),
+    })
 }
 
 // What the words ask for, if it is served.

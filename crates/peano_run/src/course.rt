@@ -7,18 +7,19 @@ ghost use Rattle.field_report.specs.Block.{field_block};
 ghost use Rattle.field_report.specs.Traffic.{traffic_block};
 ghost use Rattle.grid_file.specs.Plan.{printed};
 ghost use Rattle.grid_file.specs.Valid.{IsPlan};
-ghost use Rattle.peano_run.specs.Asked.{IsRequest};
-ghost use Rattle.peano_run.specs.Report.{Moment, Refuses, most_lines, shows_fields, shows_traffic};
-ghost use Rattle.peano_run.specs.Course.{IsCourse, IsUnderWay, IsShowing, StandsAt, CountsLines};
+ghost use Rattle.peano_run.specs.Asked.{IsTreeCount};
+ghost use Rattle.peano_run.specs.Report.{Moment, most_lines, shows_fields, shows_traffic};
+ghost use Rattle.peano_run.specs.Course.{IsCourse, IsStopped, IsUnderWay, IsShowing, StandsUnshown, CountsLines};
 
 use crate::answer::{Answer, LimitKind};
 use crate::asked::Request;
+use crate::begin::begin;
+use crate::refused::Refused;
 use command_line::ShowWhat;
 use field_report::{field_text, traffic_text};
 use grid_file::{Plan, is_printed};
 use peano_keys::Dim;
-use solver_api::Solver;
-use spacetree::{BuildFault, Field, Grid};
+use spacetree::{BuildFault, Grid};
 use std::alloc::{AllocError, Global};
 use step_driver::{Shown, StepFault, World};
 use volume_solver::AnySolver;
@@ -35,17 +36,6 @@ pub(crate) struct Course {
     pub world: World<AnySolver>,
     pub text: Vec<u8>,
     pub lines: u64,
-}
-
-impl From<AllocError> for Answer {
-    ghost use Rattle.std.specs.Prelude.{◌≡◌};
-    ghost use Rattle.peano_run.specs.declared.answer.Answer.TheVariants.{NoMemory};
-
-    ghost from_gives = { λ _ e. e ≡ NoMemory };
-
-    fn from(_e: AllocError) -> Answer {
-        Answer::NoMemory
-    }
 }
 
 // Whether fields are shown.
@@ -68,22 +58,20 @@ fn shows_traffic(show: ShowWhat) -> bool
     }
 }
 
-// How many leaf lines the report has with those of a printed step.
-fn counted(request: Request, course: &Course) -> Result<u64, Answer>
+// How many leaf lines the report has with those of a printed step, if they are not too many.
+fn counted(request: Request, course: &Course) -> Option<u64>
     requires { course.now.lines ≤ most_lines }
     ensures { (parts n : ℕ) (g : Spacetree) (f : States) → IsAt parts course.now.world g f n → CountsLines request course.now.lines f result }
 {
     if !shows_fields(request.show) {
-        return Ok(course.lines);
+        return Some(course.lines);
     }
     let leaves = course.world.leaf_count();
     if leaves > MOST_LINES - course.lines {
-        return Err(Answer::Limit {
-            which: LimitKind::Lines,
-            number: MOST_LINES,
-        });
+        None
+    } else {
+        Some(course.lines + leaves)
     }
-    Ok(course.lines + leaves)
 }
 
 // Adds the field block of what is shown, where fields are.
@@ -120,13 +108,24 @@ fn add_traffic(
 }
 
 // Adds what a printed step shows.
-fn print(alloc: Global, plan: &Plan, request: Request, mut course: Course) -> Result<Course, Answer>
+fn print(
+    alloc: Global,
+    plan: &Plan,
+    request: Request,
+    mut course: Course,
+) -> Result<Course, Refused>
     requires way { IsUnderWay plan.now course.world.step course }
     requires lines { course.lines ≤ most_lines }
     requires printed { printed plan.now course.world.step ≡ true }
-    ensures { (m : Moment) → StandsAt plan.now course.world.step course m → IsShowing request plan.now course.world.step m result }
+    ensures { (m : Moment) → StandsUnshown request plan.now course.world.step course m → IsShowing request plan.now course.world.step m result }
 {
-    let lines = counted(request, &course)?;
+    let Some(lines) = counted(request, &course) else {
+        let answer = Answer::Limit {
+            which: LimitKind::Lines,
+            number: MOST_LINES,
+        };
+        return Err(Refused::with(answer, course.world));
+    };
     let shown = course.world.show(alloc)?;
     add_fields(alloc, plan.shape.dim, request, &shown, &mut course.text)?;
     add_traffic(alloc, request, &shown, &mut course.text)?;
@@ -141,10 +140,10 @@ fn show(
     request: Request,
     step: u32,
     course: Course,
-) -> Result<Course, Answer>
+) -> Result<Course, Refused>
     requires way { IsUnderWay plan.now step course }
     requires lines { course.lines ≤ most_lines }
-    ensures { (m : Moment) → StandsAt plan.now step course m → IsShowing request plan.now step m result }
+    ensures { (m : Moment) → StandsUnshown request plan.now step course m → IsShowing request plan.now step m result }
 {
     if is_printed(plan, step) {
         print(alloc, plan, request, course)
@@ -154,33 +153,24 @@ fn show(
 }
 
 // The opening of a plan's run.
-fn opened(alloc: Global, plan: &Plan, request: Request) -> Result<Course, Answer>
+fn opened(alloc: Global, plan: &Plan, request: Request) -> Result<Course, Refused>
     requires plan { IsPlan plan.now }
-    requires request { IsRequest request }
+    requires trees { IsTreeCount request.trees }
     ensures ok { IfOk result (IsCourse request plan.now 0) }
-    ensures err { IfErr result (Refuses request plan.now) }
+    ensures err { IfErr result (IsStopped request plan.now) }
 {
     let grid = match Grid::build(alloc, &plan.shape) {
         Ok(grid) => grid,
         Err(BuildFault::TooMany) => {
-            return Err(Answer::Limit {
+            return Err(Refused::at_once(Answer::Limit {
                 which: LimitKind::Cells,
                 number: MOST_CELLS,
-            });
+            }));
         }
-        Err(BuildFault::NoMemory) => return Err(Answer::NoMemory),
+        Err(BuildFault::NoMemory) => return Err(Refused::at_once(Answer::NoMemory)),
     };
-    let field = Field::opening(alloc, &grid, plan.fills.as_slice(), plan.solver.parts())?;
-    let world = World::start(
-        alloc,
-        plan.shape.depth,
-        &grid,
-        &field,
-        plan.solver,
-        request.trees,
-    )?;
     let course = Course {
-        world,
+        world: begin(alloc, plan, &grid, request.trees)?,
         text: Vec::new(alloc),
         lines: 0,
     };
@@ -194,27 +184,31 @@ fn stepped(
     request: Request,
     step: u32,
     mut course: Course,
-) -> Result<Course, Answer>
+) -> Result<Course, Refused>
     requires plan { IsPlan plan.now }
     requires course { IsCourse request plan.now step course }
     requires more { step < plan.now.steps }
     ensures ok { IfOk result (IsCourse request plan.now (step + 1)) }
-    ensures err { IfErr result (Refuses request plan.now) }
+    ensures err { IfErr result (IsStopped request plan.now) }
 {
     match course.world.advance(alloc) {
         Ok(()) => show(alloc, plan, request, step + 1, course),
-        Err(StepFault::Overflow { step, key }) => Err(Answer::Overflow { step, key }),
-        Err(StepFault::Crowded { step, cells }) => Err(Answer::Crowded { step, cells }),
-        Err(StepFault::NoMemory) => Err(Answer::NoMemory),
+        Err(StepFault::Overflow { step, key }) => {
+            Err(Refused::with(Answer::Overflow { step, key }, course.world))
+        }
+        Err(StepFault::Crowded { step, cells }) => {
+            Err(Refused::with(Answer::Crowded { step, cells }, course.world))
+        }
+        Err(StepFault::NoMemory) => Err(Refused::at_once(Answer::NoMemory)),
     }
 }
 
 // The course of a plan to its end.
-pub(crate) fn run_plan(alloc: Global, plan: &Plan, request: Request) -> Result<Course, Answer>
+pub(crate) fn run_plan(alloc: Global, plan: &Plan, request: Request) -> Result<Course, Refused>
     requires plan { IsPlan plan.now }
-    requires request { IsRequest request }
+    requires trees { IsTreeCount request.trees }
     ensures ok { IfOk result (IsCourse request plan.now plan.now.steps) }
-    ensures err { IfErr result (Refuses request plan.now) }
+    ensures err { IfErr result (IsStopped request plan.now) }
 {
     let mut course = opened(alloc, plan, request)?;
     for step in 0..plan.steps {

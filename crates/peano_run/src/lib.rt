@@ -3,10 +3,12 @@
 
 mod answer;
 mod asked;
+mod begin;
 mod course;
 mod demo;
 mod ending;
 pub mod laws;
+mod refused;
 mod report;
 #[cfg(test)]
 mod tests;

@@ -1,21 +1,21 @@
 //! The report of a file, from its bytes.
 ghost use Rattle.std.specs.Prelude.{◌≤◌, IfOk, IfErr, length};
-ghost use Rattle.peano_run.specs.Asked.{IsRequest};
-ghost use Rattle.peano_run.specs.Report.{IsReport};
-ghost use Rattle.peano_run.specs.Run.{EndsBy};
+ghost use Rattle.peano_run.specs.Asked.{IsTreeCount};
+ghost use Rattle.peano_run.specs.Run.{EndsAtReport, EndsBy};
 
 use crate::answer::Answer;
 use crate::asked::Request;
-use crate::course::run_plan;
+use crate::course::{Course, run_plan};
 use crate::ending::Ending;
+use crate::refused::Refused;
 use grid_file::{PlanFault, read_plan};
 use std::alloc::Global;
 
-// The report of a file that is not too long, or the answer that stands in its place.
-pub(crate) fn report(alloc: Global, bytes: &[u8], request: Request) -> Result<Vec<u8>, Ending>
+// The course to the report of a file that is not too long, or the answer that stands in its place.
+pub(crate) fn report(alloc: Global, bytes: &[u8], request: Request) -> Result<Course, Ending>
     requires size { length bytes.now ≤ 1048576 }
-    requires request { IsRequest request }
-    ensures ok { IfOk result (λ text. IsReport request bytes.now text.items) }
+    requires trees { IsTreeCount request.trees }
+    ensures ok { IfOk result (EndsAtReport request bytes.now) }
     ensures err { IfErr result (λ ending. EndsBy request ending bytes.now) }
 {
     let plan = match read_plan(alloc, bytes) {
@@ -30,7 +30,7 @@ pub(crate) fn report(alloc: Global, bytes: &[u8], request: Request) -> Result<Ve
     };
     let dim = plan.shape.dim;
     match run_plan(alloc, &plan, request) {
-        Ok(course) => Ok(course.text),
-        Err(answer) => Err(Ending { dim, answer }),
+        Ok(course) => Ok(course),
+        Err(Refused { answer, world }) => Err(Ending { dim, answer, world }),
     }
 }

@@ -147,7 +147,7 @@ fn refusals_name_their_cause(rt: HostRuntime) -> Result<(), Fail> {
 #[test]
 fn words_are_refused_before_the_input_is_read(rt: HostRuntime) -> Result<(), Fail> {
     let usage = "usage: peano [--trees N] [--workers N] [--show fields|traffic|all] [--demo N]\n";
-    let tables: [&[&str]; 10] = [
+    let tables: [&[&str]; 9] = [
         &["--help"],
         &[""],
         &["--"],
@@ -155,7 +155,6 @@ fn words_are_refused_before_the_input_is_read(rt: HostRuntime) -> Result<(), Fai
         &["--trees=65"],
         &["--workers=1"],
         &["--show", "some"],
-        &["--demo", "1", "--trees", "2"],
         &["--demo", "1", "--show", "fields"],
         &["--demo", "10000000000000000000"],
     ];
@@ -213,9 +212,13 @@ fn words_that_ask_for_trees_and_traffic(rt: HostRuntime) -> Result<(), Fail> {
 
 #[test]
 fn a_demonstration_reads_nothing_and_writes_its_summary(rt: HostRuntime) -> Result<(), Fail> {
-    let table: [(&[&str], &str); 2] = [
+    let table: [(&[&str], &str); 3] = [
         (
             &["--demo", "1"],
+            "demo 1\nsteps 20\ncells 6958\nleaves 6185\nlow -698\nhigh 800\nlevel 0 leaves 0\nlevel 1 leaves 0\nlevel 2 leaves 42\nlevel 3 leaves 231\nlevel 4 leaves 476\nlevel 5 leaves 5436\n",
+        ),
+        (
+            &["--demo", "1", "--trees=7"],
             "demo 1\nsteps 20\ncells 6958\nleaves 6185\nlow -698\nhigh 800\nlevel 0 leaves 0\nlevel 1 leaves 0\nlevel 2 leaves 42\nlevel 3 leaves 231\nlevel 4 leaves 476\nlevel 5 leaves 5436\n",
         ),
         (
@@ -296,6 +299,33 @@ fn an_input_is_a_megabyte_at_most(rt: HostRuntime) -> Result<(), Fail> {
         let outcome = run(alloc, &[], &mut input, &mut out, &mut err);
         assert_eq!(rt; outcome.status, status);
         assert_eq!(rt; err.bytes(), text.as_bytes());
+    }
+    Ok(())
+}
+
+#[test]
+fn the_world_that_ran_is_left(rt: HostRuntime) -> Result<(), Fail> {
+    // The words, the file, and of the world that is left its step, whether it is live, and how many notes it has.
+    let table: [(&[&str], &str, Option<(u32, bool, usize)>); 9] = [
+        (&[], SINGLE_CELL, Some((0, true, 2))),
+        (&["--trees", "2"], PULSE, Some((1, true, 8))),
+        (&[], MERGES, Some((1, true, 5))),
+        (&["--show", "traffic"], WAVE, Some((2, true, 7))),
+        (&["--demo", "1", "--trees", "2"], "", Some((20, true, 124))),
+        (&["--trees", "3"], OVERFLOWS, Some((0, false, 9))),
+        (&[], CROWDED, Some((0, false, 3))),
+        (&[], TOO_MANY_LINES, Some((8, true, 25))),
+        (&[], TOO_MANY_CELLS, None),
+    ];
+    for (words, file, want) in table {
+        let left = run_with(rt.alloc(), words, file, NOWHERE)?;
+        let notes = left.outcome.notes().len();
+        let got = left
+            .outcome
+            .world
+            .as_ref()
+            .map(|world| (world.step(), world.is_live(), notes));
+        assert_eq!(rt; got, want, "{file}");
     }
     Ok(())
 }

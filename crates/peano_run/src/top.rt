@@ -1,15 +1,17 @@
 //! The top call.
-ghost use Rattle.std.specs.Prelude.{◌≡◌, ◌≢◌, ◌⊎◌, false, map, string_bytes};
+ghost use Rattle.std.specs.Prelude.{◌≡◌, ◌≢◌, ◌⊎◌, None, false, map, string_bytes};
 ghost use Rattle.peano_run.specs.Texts.{status_of};
 ghost use Rattle.peano_run.specs.declared.asked.Asked.{Asked};
 ghost use Rattle.peano_run.specs.declared.asked.Asked.TheVariants.{File};
 ghost use Rattle.peano_run.specs.declared.asked.Request.{Request};
-ghost use Rattle.peano_run.specs.Asked.{Asks, AreRefused, AskForNoFile, HasTrees, IsRequest};
+ghost use Rattle.peano_run.specs.Asked.{Asks, AreRefused, AskForNoFile, HasTrees, IsTreeCount};
 ghost use Rattle.peano_run.specs.Run.{WritesNothing, ReadFaultRose, WriteFaultRose, Reports, NamesIn, Tells, TellsAnswer};
-ghost use Rattle.peano_run.specs.Served.{ReportsFile, Serves};
+ghost use Rattle.peano_run.specs.Left.{LeavesBy, leaves_world};
+ghost use Rattle.peano_run.specs.Served.{Leaves, ReportsFile, Serves};
 
 use crate::answer::{Answer, Outcome};
 use crate::asked::{Asked, Request, asked_in};
+use crate::course::Course;
 use crate::demo::demonstrated;
 use crate::ending::Ending;
 use crate::report::report;
@@ -22,9 +24,9 @@ use std::alloc::Global;
 const LONGEST_INPUT: u64 = 1_048_576;
 
 // Reads the source to its end and makes the report of what it had.
-fn report_of<S: Source>(alloc: Global, input: &mut S, request: Request) -> Result<Vec<u8>, Ending>
+fn report_of<S: Source>(alloc: Global, input: &mut S, request: Request) -> Result<Course, Ending>
     requires fresh { S.ended input.old ≡ false }
-    requires request { IsRequest request }
+    requires trees { IsTreeCount request.trees }
     ensures { Reports request (S.left input.old) (S.left input.new) (S.ended input.new) (S.faults input.old) (S.faults input.new) result }
 {
     match read_all(alloc, input, LONGEST_INPUT) {
@@ -43,23 +45,27 @@ fn reported<S: Source, K: Sink>(
     out: &mut K,
 ) -> Ending
     requires fresh { S.ended input.old ≡ false }
-    requires request { IsRequest request }
+    requires trees { IsTreeCount request.trees }
     ensures served { result.answer ≢ Answer.Usage }
     ensures reports { ReportsFile request result.answer (S.left input.old) (S.left input.new) (S.ended input.new) (K.taken out.old) (K.taken out.new) }
+    ensures world { LeavesBy request result.answer (S.left input.old) result.world }
     ensures nothing { WritesNothing result.answer out.old out.new }
     ensures read_fault { ReadFaultRose result.answer (S.faults input.old) (S.faults input.new) }
     ensures write_fault { WriteFaultRose result.answer (K.faults out.old) (K.faults out.new) }
     ensures named { NamesIn result.dim result.answer (S.left input.old) }
 {
-    let text = match report_of(alloc, input, request) {
-        Ok(text) => text,
+    let course = match report_of(alloc, input, request) {
+        Ok(course) => course,
         Err(ending) => return ending,
     };
-    match write_whole(out, text.as_slice()) {
-        Ok(()) => Ending::of(Answer::Done),
-        Err(fault) => Ending::of(Answer::WriteFault {
-            written: fault.written,
-        }),
+    match write_whole(out, course.text.as_slice()) {
+        Ok(()) => Ending::with(Answer::Done, course.world),
+        Err(fault) => Ending::with(
+            Answer::WriteFault {
+                written: fault.written,
+            },
+            course.world,
+        ),
     }
 }
 
@@ -70,13 +76,14 @@ fn served<S: Source, K: Sink>(alloc: Global, asked: Asked, input: &mut S, out: &
     ensures served { result.answer ≢ Answer.Usage }
     ensures unread { ((r : Request) → asked ≢ File r) → input.new ≡ input.old }
     ensures serves { Serves asked result.answer (S.left input.old) (S.left input.new) (S.ended input.new) (K.taken out.old) (K.taken out.new) }
+    ensures world { Leaves asked result.answer (S.left input.old) result.world }
     ensures nothing { WritesNothing result.answer out.old out.new }
     ensures read_fault { ReadFaultRose result.answer (S.faults input.old) (S.faults input.new) }
     ensures write_fault { WriteFaultRose result.answer (K.faults out.old) (K.faults out.new) }
     ensures named { NamesIn result.dim result.answer (S.left input.old) }
 {
     match asked {
-        Asked::Demo(n) => demonstrated(alloc, n, out),
+        Asked::Demo { number, trees } => demonstrated(alloc, number, trees, out),
         Asked::File(request) => reported(alloc, request, input, out),
     }
 }
@@ -90,6 +97,8 @@ fn ended<S: Source, K: Sink>(alloc: Global, words: &[String], input: &mut S, out
     ensures unread { AskForNoFile (map string_bytes words.now) → input.new ≡ input.old }
     ensures serves { (asked : Asked) → Asks (map string_bytes words.now) asked
         → Serves asked result.answer (S.left input.old) (S.left input.new) (S.ended input.new) (K.taken out.old) (K.taken out.new) }
+    ensures world { (asked : Asked) → Asks (map string_bytes words.now) asked → Leaves asked result.answer (S.left input.old) result.world }
+    ensures no_world { leaves_world result.answer ≡ false → result.world ≡ None }
     ensures nothing { WritesNothing result.answer out.old out.new }
     ensures read_fault { ReadFaultRose result.answer (S.faults input.old) (S.faults input.new) }
     ensures write_fault { WriteFaultRose result.answer (K.faults out.old) (K.faults out.new) }
@@ -114,8 +123,8 @@ fn tell<E: Sink>(err: &mut E, text: &[u8])
 
 /// Reads a file from `input`, takes the steps that it asks for, and writes the report of its printed steps to `out`; or, with
 /// `--demo N`, takes the steps of a demonstration and writes its summary. `words` are those of the command line without the
-/// program's name. Those that mean nothing are refused, and so are, as yet, helpers, and demonstrations by more trees than one.
-/// The text of a refusal goes to `err`. Nothing is written before the last step.
+/// program's name. Those that mean nothing are refused, and so are, as yet, helpers. The text of a refusal goes to `err`.
+/// Nothing is written before the last step. The outcome carries the world that ran, with the notes of its sweeps.
 pub fn run<S: Source, K: Sink, E: Sink>(
     alloc: Global,
     words: &[String],
@@ -140,6 +149,12 @@ pub fn run<S: Source, K: Sink, E: Sink>(
         → Serves asked result.answer (S.left input.old) (S.left input.new) (S.ended input.new) (K.taken out.old) (K.taken out.new) }
     ensures nothing { WritesNothing result.answer out.old out.new }
 
+    // The world that ran is left at `Done` and at a write fault, at the last grid and field, with the notes of all sweeps;
+    // where a step was refused, with the notes up to that step's secondary sweeps; and where the lines of a step are too
+    // many, with those up to its showing. With any other answer there is none.
+    ensures world { (asked : Asked) → Asks (map string_bytes words.now) asked → Leaves asked result.answer (S.left input.old) result.world }
+    ensures no_world { leaves_world result.answer ≡ false → result.world ≡ None }
+
     // A fault comes only where a count of faults rose.
     ensures read_fault { ReadFaultRose result.answer (S.faults input.old) (S.faults input.new) }
     ensures write_fault { WriteFaultRose result.answer (K.faults out.old) (K.faults out.new) }
@@ -153,5 +168,6 @@ pub fn run<S: Source, K: Sink, E: Sink>(
     Outcome {
         status: ending.answer.status(),
         answer: ending.answer,
+        world: ending.world,
     }
 }

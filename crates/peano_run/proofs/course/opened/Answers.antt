@@ -4,25 +4,28 @@ use Rattle.peano_run.proofs.Showings.{shown_ok, shown_err}
 use Rattle.peano_run.proofs.course.opened.Goals as goal
 
 pub show-requires-clause-way : goal.show-requires-clause-way
-show-requires-clause-way c = (
-  first_moment c.in_ok-world.world.keys c.in-Ok.grid c.in_ok-field.field,
-  record { at = c.in_ok-world.ensures.at; solver = c.in_ok-world.ensures.solver; keys = refl; text = c.new.ensures.items; lines = refl },
-)
+show-requires-clause-way c =
+    let w = c.in_ok-begin.ensures in (
+      first_moment c.in_ok-begin.field-0.keys c.in-Ok.grid w.field,
+      record { at = w.at; solver = w.solver; keys = refl; text = c.new.ensures.items; lines = refl },
+    )
 
 pub returns-clause-ok : goal.returns-clause-ok
 returns-clause-ok c =
     let plan = c.args.plan.now in
-    let field = rw (c.as_slice.ensures, c.parts.ensures.value) at c.in_ok-field.ensures.opening in
-    let first = first_moment c.in_ok-world.world.keys c.in-Ok.grid c.in_ok-field.field in
+    let w = c.in_ok-begin.ensures in
+    let keys = c.in_ok-begin.field-0.keys in
+    let first = first_moment keys c.in-Ok.grid w.field in
     shown_ok c.args.request plan 0 first c.show.result _
-    (c.show.ensures first (record { at = c.in_ok-world.ensures.at; solver = c.in_ok-world.ensures.solver; keys = refl; text = c.new.ensures.items; lines = refl }))
-    (λ after h. opening_course c.args.request plan c.in_ok-world.world.keys c.in-Ok.grid c.in_ok-field.field after c.in-Ok.ensures.opening c.in-Ok.ensures.small field c.in_ok-world.ensures.keys h)
+    (c.show.ensures first (record { stands = record { at = w.at; solver = w.solver; keys = refl; text = c.new.ensures.items; lines = refl }; noted = (w.begun, w.noted) }))
+    (λ after h. opening_course c.args.request plan keys c.in-Ok.grid w.field after c.in-Ok.ensures.opening c.in-Ok.ensures.small w.begun.field w.begun.cut h)
 
 pub returns-clause-err : goal.returns-clause-err
 returns-clause-err c =
     let plan = c.args.plan.now in
-    let field = rw (c.as_slice.ensures, c.parts.ensures.value) at c.in_ok-field.ensures.opening in
-    let first = first_moment c.in_ok-world.world.keys c.in-Ok.grid c.in_ok-field.field in
+    let w = c.in_ok-begin.ensures in
+    let keys = c.in_ok-begin.field-0.keys in
+    let first = first_moment keys c.in-Ok.grid w.field in
     shown_err c.args.request plan 0 first c.show.result _
-    (c.show.ensures first (record { at = c.in_ok-world.ensures.at; solver = c.in_ok-world.ensures.solver; keys = refl; text = c.new.ensures.items; lines = refl }))
-    (λ a h. opening_refused c.args.request plan c.in_ok-world.world.keys c.in-Ok.grid c.in_ok-field.field a c.in-Ok.ensures.opening c.in-Ok.ensures.small field h)
+    (c.show.ensures first (record { stands = record { at = w.at; solver = w.solver; keys = refl; text = c.new.ensures.items; lines = refl }; noted = (w.begun, w.noted) }))
+    (λ a h. opening_refused c.args.request plan keys c.in-Ok.grid w.field a c.in-Ok.ensures.opening c.in-Ok.ensures.small w.begun.field h)

@@ -1,5 +1,5 @@
 use Rattle.std.proofs.Common.{sym, subst, ◌∙◌}
-use Rattle.peano_run.specs.Course.{StandsAt, IsShowing}
+use Rattle.peano_run.specs.Course.{StandsAt, StandsUnshown, IsShowing}
 use Rattle.peano_run.proofs.Showings.{not_printed}
 use Rattle.peano_run.proofs.course.show.Goals as goal
 
@@ -10,7 +10,8 @@ print-requires-clause-way c =
 
 pub returns-then-is_printed : goal.returns-then-is_printed
 returns-then-is_printed c = λ m h.
-    subst (λ n. IsShowing c.args.request c.args.plan.now n m c.print.result) h.at.step_is (c.print.ensures m (subst (λ n. StandsAt c.args.plan.now n c.args.course m) (sym h.at.step_is) h))
+    let at = h.stands.at.step_is in
+    subst (λ n. IsShowing c.args.request c.args.plan.now n m c.print.result) at (c.print.ensures m (subst (λ n. StandsUnshown c.args.request c.args.plan.now n c.args.course m) (sym at) h))
 
 pub returns-else-is_printed : goal.returns-else-is_printed
 returns-else-is_printed c = λ m h. not_printed c.args.request c.args.plan.now c.args.step c.args.course m (sym c.is_printed.ensures ∙ c.if-is_printed.false) c.requires.lines h
