@@ -13,10 +13,11 @@ fn drawn(seed: &mut u32) -> u32 {
     *seed >> 16
 }
 
-// A random event of three trees with ten tasks each, some of which there may not be. Most are visits.
-fn drawn_event(seed: &mut u32) -> Event {
+// A random event of these trees and of one that there is not, with ten tasks each, some of which there may not be. Most are
+// visits.
+fn drawn_event(seed: &mut u32, trees: u32) -> Event {
     let actor = drawn(seed) % 2;
-    let tree = drawn(seed) % 3;
+    let tree = drawn(seed) % trees.saturating_add(1);
     let task = drawn(seed) % 10;
     match drawn(seed) % 12 {
         0 | 1 => Event::Take { actor, tree, task },
@@ -69,20 +70,42 @@ fn compare(
     let mut core = core_of(rt, alloc, trees, dir)?;
     let mut history = History::new(alloc, trees, dir);
     let mut seed = seed;
-    for _ in 0..300 {
-        let event = drawn_event(&mut seed);
+    for _ in 0..200 {
+        let event = drawn_event(&mut seed, trees);
         expect_alike(rt, &mut core, &mut history, event)?;
     }
     expect_same(rt, alloc, &core, &history)
 }
 
-#[test]
-fn random_lists_agree_with_their_history(rt: HostRuntime) -> Result<(), AllocError> {
-    for seed in 0..100 {
-        for dir in [Direction::Forward, Direction::Backward] {
-            compare(&rt, rt.alloc(), 1, dir, seed)?;
-            compare(&rt, rt.alloc(), 2, dir, seed)?;
-        }
+// Five hundred random lists.
+fn compare_lists(
+    rt: &impl Abort,
+    alloc: Global,
+    trees: u32,
+    dir: Direction,
+) -> Result<(), AllocError> {
+    for seed in 0..500 {
+        compare(rt, alloc, trees, dir, seed)?;
     }
     Ok(())
+}
+
+#[test]
+fn random_lists_of_one_tree_agree_with_their_history(rt: HostRuntime) -> Result<(), AllocError> {
+    compare_lists(&rt, rt.alloc(), 1, Direction::Forward)
+}
+
+#[test]
+fn random_lists_of_one_tree_that_goes_back_agree(rt: HostRuntime) -> Result<(), AllocError> {
+    compare_lists(&rt, rt.alloc(), 1, Direction::Backward)
+}
+
+#[test]
+fn random_lists_of_two_trees_agree_with_their_history(rt: HostRuntime) -> Result<(), AllocError> {
+    compare_lists(&rt, rt.alloc(), 2, Direction::Forward)
+}
+
+#[test]
+fn random_lists_of_two_trees_that_go_back_agree(rt: HostRuntime) -> Result<(), AllocError> {
+    compare_lists(&rt, rt.alloc(), 2, Direction::Backward)
 }
