@@ -2,7 +2,7 @@
 use Rattle.std.proofs.Common.{◌≡◌, ℕ, zero, suc, ◌+◌, ◌*◌, ◌<◌, ◌≤◌, true, List, [], ◌∷◌, map, length, refl, ap, sym, ◌∙◌, subst, inl, inr, ⊎_elim, arith, length-append}
 use Rattle.std.specs.Prelude.{flat_map}
 use Rattle.std.specs.Ordering.{eq_by_cmp}
-use Rattle.std.proofs.lemmas.Bool.{false≢true}
+use Rattle.std.proofs.lemmas.Bool.{false≢true, or_cases}
 use Rattle.std.proofs.lemmas.List.{length-map}
 use Rattle.stack_law.specs.Once.{IsIn}
 use Rattle.stack_law.proofs.Chains.{in_left, in_right}
@@ -24,7 +24,6 @@ use Rattle.spacetree.proofs.Leaves.{leaf_there}
 use Rattle.vertex_stacks.specs.Tales.{capped}
 use Rattle.step_world.specs.Counts.{EachOnce}
 use Rattle.step_world.proofs.AtMost.{counts_at_most}
-use Rattle.step_world.proofs.Exists.{or_one}
 use Rattle.step_sweeps.proofs.OwnCounts.{false_by}
 use Rattle.showing_sweep.specs.Counts.{AreSoMany, NoneTwice}
 use Rattle.showing_sweep.specs.Laws.{AmountsAreOne, TrafficIsExact, amounts_in}
@@ -91,7 +90,7 @@ amounts_are_one k g t n m a b =
 -- cells of a list, in the words of counts over grids
 among_in : (cs : List CellKey) (q : CellKey) → is_among cs q ≡ true → IsIn q cs
 among_in [] q e = absurd (false≢true e)
-among_in (c ∷ cs) q e = ⊎_elim (λ h. inl (same_key q c h)) (λ h. inr (among_in cs q h)) (or_one (eq_by_cmp key_cmp q c) (is_among cs q) e)
+among_in (c ∷ cs) q e = ⊎_elim (λ h. inl (same_key q c h)) (λ h. inr (among_in cs q h)) (or_cases (eq_by_cmp key_cmp q c) (is_among cs q) e)
 
 each_once : (cs : List CellKey) → NoneTwice cs → EachOnce cs
 each_once [] once = tt

@@ -30,17 +30,17 @@ pub decides_zone : (dim : Dim) (c : CellKey) (z : Zone) → Decides (zone_refine
 decides_zone dim c z = Decides-and _ _ (Decides-ltb _ _) (decides_meets dim z c)
 
 module _ {X : Type 0} (P : X → Type 0) where
-  any_cons : (x : X) (xs : List X) → P x ⊎ Any P xs → Any P (x ∷ xs)
+  pub any_cons : (x : X) (xs : List X) → P x ⊎ Any P xs → Any P (x ∷ xs)
   any_cons x xs (inl h) = (0, x, omega arith, refl, h)
   any_cons x xs (inr h) = (suc h.0, h.1, omega (arith, h.2), h.3, h.4)
 
-  any_cases : (x : X) (xs : List X) → Any P (x ∷ xs) → P x ⊎ Any P xs
+  pub any_cases : (x : X) (xs : List X) → Any P (x ∷ xs) → P x ⊎ Any P xs
   any_cases x xs h = cases h.0 h.1 h.2 h.3 h.4 where
     cases : (k : ℕ) (y : X) → k < length (x ∷ xs) → get_or (x ∷ xs) k y ≡ y → P y → P x ⊎ Any P xs
     cases zero y lt e p = inl (subst P (sym e) p)
     cases (suc k) y lt e p = inr (k, y, omega arith, e, p)
 
-  none_of_empty : Any P [] → ⊥
+  pub none_of_empty : Any P [] → ⊥
   none_of_empty h = absurd (omega (arith, h.2))
 
   all_cons : (x : X) (xs : List X) → P x → All P xs → All P (x ∷ xs)

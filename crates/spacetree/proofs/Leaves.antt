@@ -1,9 +1,9 @@
 -- Leaves: a cell of the grid that is not refined.
 use Rattle.std.proofs.Common.{◌+◌, ◌<◌, arith, ◌≡◌, ℕ, List, Bool, true, false, not, ◌&&◌, ◌==◌, slice_index, length, refl, ap, sym, ◌∙◌, eqb-true, inl, inr}
-use Rattle.std.proofs.lemmas.Bool.{false≢true, or_right, or_cases}
+use Rattle.std.proofs.lemmas.Bool.{false≢true, cases_eq, or_left, or_right, or_cases}
 use Rattle.peano_keys.specs.declared.cell.CellKey.{CellKey}
 use Rattle.peano_keys.specs.Cell.{IsCell, parent_of, child_of}
-use Rattle.peano_keys.specs.Grid.{Spacetree, is_refined, has_cell}
+use Rattle.peano_keys.specs.Grid.{Spacetree, IsGrid, is_refined, has_cell}
 use Rattle.solver_api.specs.Step.{IsLeafOf}
 use Rattle.spacetree.proofs.Children.{parent_of_child}
 
@@ -35,6 +35,13 @@ not_leaf t c h leaf = false≢true (sym (unrefined t c leaf) ∙ h)
 -- below the root a cell of the grid has a refined parent
 pub parent_refined : (t : Spacetree) (c : CellKey) → 0 < c.level → has_cell t c ≡ true → is_refined t (parent_of c) ≡ true
 parent_refined t c h there = elim (or_cases (c.level == 0) (is_refined t (parent_of c)) there) [ inl e ↦ absurd (omega (arith, eqb-true c.level 0 e)) | inr e ↦ e ]
+
+-- a refined cell is one of the grid
+pub refined_there : (depth : ℕ) (t : Spacetree) (c : CellKey) → IsGrid depth t → is_refined t c ≡ true → has_cell t c ≡ true
+refined_there depth t c grid refined = elim (cases_eq c.level 0) [
+  | inl top ↦ or_left (c.level == 0) (is_refined t (parent_of c)) (ap (λ l. l == 0) top)
+  | inr apart ↦ or_right (c.level == 0) (is_refined t (parent_of c)) (grid.parents c refined (omega (arith, apart)))
+]
 
 -- a child of a refined cell is one of the grid
 pub child_there : (t : Spacetree) (p : CellKey) (k : List ℕ) → length p.x ≡ 3 → slice_index k 0 < 3 → slice_index k 1 < 3 → slice_index k 2 < 3 → is_refined t p ≡ true → has_cell t (child_of p k) ≡ true

@@ -12,3 +12,9 @@ pub mod CellCounts
 pub mod Unique
 pub mod Sifts
 pub mod NextGrids
+pub mod Told
+pub mod AllCells
+pub mod Collected
+pub mod Exists
+pub mod OpeningExists
+pub mod LeadsOn

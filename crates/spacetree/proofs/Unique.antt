@@ -1,71 +1,27 @@
 -- A step and an evaluation lead to one grid and one field, so an evaluation that goes through is refused in none of its steps.
-use Rattle.std.proofs.Common.{List, zero, suc, ◌^◌, ◌<◌, ◌≤◌, length, arith, ◌≡◌, ℕ, Bool, true, false, refl, ap, sym, ◌∙◌, subst, ◌⊎◌, inl, inr, Option, Some, None, IsSome, IsNone}
+use Rattle.std.proofs.Common.{List, zero, suc, ◌<◌, ◌≤◌, arith, ◌≡◌, ℕ, refl, ap, sym, ◌∙◌, subst, inl, inr, Option, Some, None, IsSome, IsNone}
 use Rattle.std.proofs.Math.Nat.{eq-or-lt_of_le}
-use Rattle.std.proofs.lemmas.Bool.{cases_lt, false≢true}
+use Rattle.std.proofs.lemmas.Bool.{false≢true}
 use Rattle.std.specs.Cmp.{both_ways}
 use Rattle.std.specs.Ordering.{ordering_reverse}
 use Rattle.std.specs.declared.cmp.Ordering.TheVariants.{Less, Equal, Greater}
 use Rattle.std.specs.FinMap as map
 use Rattle.std.specs.FinSet as set
-use Rattle.peano_keys.specs.declared.dim.Dim.{Dim}
 use Rattle.peano_keys.specs.declared.cell.CellKey.{CellKey}
 use Rattle.peano_keys.specs.declared.state.State.{State}
 use Rattle.peano_keys.specs.declared.side.Mark.{Mark}
-use Rattle.peano_keys.specs.Dim.{third_extent}
-use Rattle.peano_keys.specs.Cell.{IsCell, at, key_cmp}
-use Rattle.peano_keys.specs.Grid.{Spacetree, is_refined, is_leaf}
+use Rattle.peano_keys.specs.Cell.{key_cmp}
+use Rattle.peano_keys.specs.Grid.{Spacetree, is_refined}
 use Rattle.peano_keys.specs.Field.{States}
 use Rattle.peano_keys.specs.Next.{IsNextGrid}
-use Rattle.solver_api.specs.Step.{UpdateRule, MarkRule, IsLeafOf, IsStep, Overflows, marks_of, new_state}
+use Rattle.solver_api.specs.Step.{UpdateRule, MarkRule, IsStep, Overflows, marks_of, new_state}
 use Rattle.spacetree.specs.Counts.{cells_of}
 use Rattle.spacetree.specs.declared.shape.Shape.{Shape}
 use Rattle.spacetree.specs.declared.shape.Fill.{Fill}
 use Rattle.spacetree.specs.Opening.{Opens, OpensField}
 use Rattle.spacetree.specs.Evaluation.{Evaluates, OverflowsIn, CrowdsIn, Crowds, IsServedStep}
 use Rattle.spacetree.proofs.CellMaps.{cells_total, exact_cells}
-
-below : (a b : ℕ) → (a < b) ⊎ ¬ (a < b)
-below a b = elim (cases_lt a b) [ inl h ↦ inl h | inr h ↦ inr (λ g. absurd (omega arith)) ]
-
-at_most : (a b : ℕ) → (a ≤ b) ⊎ ¬ (a ≤ b)
-at_most a b = elim (cases_lt b a) [ inl h ↦ inr (λ g. absurd (omega arith)) | inr h ↦ inl h ]
-
-three_or_not : (a : ℕ) → (a ≡ 3) ⊎ ¬ (a ≡ 3)
-three_or_not a = elim (cases_lt a 3) [
-  | inl h ↦ inr (λ g. absurd (omega arith))
-  | inr h ↦ elim (cases_lt 3 a) [ inl k ↦ inr (λ g. absurd (omega arith)) | inr k ↦ inl (omega arith) ]
-]
-
--- whether a key is a cell of the domain can be told
-cell_or_not : (dim : Dim) (c : CellKey) → IsCell dim c ⊎ ¬ IsCell dim c
-cell_or_not dim c =
-    elim (three_or_not (length c.x)) [
-      | inr apart ↦ inr (λ h. apart h.shape)
-      | inl shape ↦ elim (at_most c.level 12) [
-        | inr apart ↦ inr (λ h. apart h.level)
-        | inl level ↦ elim (below (at c 0) (3 ^ c.level)) [
-          | inr apart ↦ inr (λ h. apart h.first)
-          | inl first ↦ elim (below (at c 1) (3 ^ c.level)) [
-            | inr apart ↦ inr (λ h. apart h.second)
-            | inl second ↦ elim (below (at c 2) (third_extent dim (3 ^ c.level))) [
-              | inr apart ↦ inr (λ h. apart h.third)
-              | inl third ↦ inl record { shape = shape; level = level; first = first; second = second; third = third }
-            ]
-          ]
-        ]
-      ]
-    ]
-
-true_or_not : (b : Bool) → (b ≡ true) ⊎ ¬ (b ≡ true)
-true_or_not true = inl refl
-true_or_not false = inr (λ h. false≢true h)
-
-leaf_or_not : (t : Spacetree) (c : CellKey) → IsLeafOf t c ⊎ ¬ IsLeafOf t c
-leaf_or_not t c =
-    elim (cell_or_not t.dim c) [
-      | inr apart ↦ inr (λ h. apart h.cell)
-      | inl cell ↦ elim (true_or_not (is_leaf t c)) [ inr apart ↦ inr (λ h. apart h.leaf) | inl leaf ↦ inl record { cell = cell; leaf = leaf } ]
-    ]
+use Rattle.spacetree.proofs.Told.{leaf_told}
 
 -- a grid is told by its refined cells
 same_grid : (a b : Spacetree) → a.dim ≡ b.dim → ((c : CellKey) → is_refined a c ≡ is_refined b c) → a ≡ b
@@ -79,7 +35,7 @@ one_opening shape a b h g = same_grid a b (h.dim ∙ sym g.dim) (λ c. both_ways
 
 -- fills open one field on it
 pub one_opening_field : (t : Spacetree) (fills : List Fill) (parts : ℕ) (a b : States) → OpensField t fills parts a → OpensField t fills parts b → a ≡ b
-one_opening_field t fills parts a b h g = map.same_map cells_total exact_cells a b (λ c. elim (leaf_or_not t c) [
+one_opening_field t fills parts a b h g = map.same_map cells_total exact_cells a b (λ c. elim (leaf_told t c) [
   | inl leaf ↦ h.leaves c leaf ∙ sym (g.leaves c leaf)
   | inr apart ↦ h.others c apart ∙ sym (g.others c apart)
 ])
@@ -89,7 +45,7 @@ one_grid : (old : Spacetree) (marks : CellKey → Mark) (a b : Spacetree) → Is
 one_grid old marks a b h g = same_grid a b (h.dim ∙ sym g.dim) (λ c. both_ways (is_refined a c) (is_refined b c) (λ e. (g.refined c).1 ((h.refined c).0 e)) (λ e. (h.refined c).1 ((g.refined c).0 e)))
 
 one_field : (updated : UpdateRule) (marked : MarkRule) (t : Spacetree) (f : States) (new : Spacetree) (a b : States) → IsStep updated marked t f new a → IsStep updated marked t f new b → a ≡ b
-one_field updated marked t f new a b h g = map.same_map cells_total exact_cells a b (λ c. elim (leaf_or_not new c) [
+one_field updated marked t f new a b h g = map.same_map cells_total exact_cells a b (λ c. elim (leaf_told new c) [
   | inl leaf ↦ h.leaves c leaf ∙ sym (g.leaves c leaf)
   | inr apart ↦ h.others c apart ∙ sym (g.others c apart)
 ])

@@ -15,3 +15,4 @@ pub mod Opening
 pub mod Evaluation
 pub mod Build
 pub mod Marked
+pub mod Laws

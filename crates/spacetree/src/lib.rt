@@ -11,6 +11,7 @@ mod evaluation;
 mod fault;
 mod field;
 mod grid;
+pub mod laws;
 mod listed;
 mod next_field;
 mod next_grid;

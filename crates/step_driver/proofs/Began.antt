@@ -19,7 +19,7 @@ use Rattle.step_phases.specs.Change.{Change}
 use Rattle.step_sweeps.specs.Kernels.{Kernel, IsChangeBy}
 use Rattle.step_sweeps.specs.Sweeps.{IsToFinish}
 use Rattle.step_world.specs.Notes.{by_trees}
-use Rattle.step_world.proofs.Exists.{next_exists}
+use Rattle.spacetree.proofs.Exists.{next_grid_exists}
 use Rattle.step_world.proofs.Worlds.{deep_grid}
 use Rattle.step_driver.specs.declared.finishing.Turnover.{Turnover}
 use Rattle.step_driver.specs.Stores.{store_of, AreTrees, AllMerged, AllHaveLists}
@@ -96,7 +96,7 @@ stand_on parts k stores notes cells g f at = record {
 
 module _ (kernel : Kernel) (k : Cuts) (dir : Direction) (g : Spacetree) (f : States) (step : ℕ) (before : List TreeLists) (all : AllStandOn k kernel.parts dir g f before) where
   pub grid_exists : (new : Spacetree) × IsNextGrid g (marks_of kernel.marked g f) new
-  grid_exists = next_exists g (marks_of kernel.marked g f) (deep_grid k g all.grid)
+  grid_exists = next_grid_exists g (marks_of kernel.marked g f) (deep_grid k g all.grid)
 
   module _ (swept : List TreeLists) (old noted : List Note) (failing : Option CellKey) (h : AreComputed kernel k dir g f step k.trees before swept old noted failing) where
     abbrev new : Spacetree

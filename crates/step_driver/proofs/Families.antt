@@ -2,7 +2,7 @@
 use Rattle.std.proofs.Common.{◌≡◌, ◌⊎◌, inl, inr, ⊎_elim, ℕ, zero, suc, ◌+◌, ◌*◌, ◌^◌, ◌<◌, ◌≤◌, ◌||◌, true, cond, refl, sym, ap, ◌∙◌, arith, List, [], ◌∷◌, length}
 use Rattle.std.specs.FinSet as set
 use Rattle.std.specs.Ordering.{eq_by_cmp}
-use Rattle.std.proofs.lemmas.Bool.{false≢true, cases_eq}
+use Rattle.std.proofs.lemmas.Bool.{false≢true, cases_eq, or_left, or_right, or_cases}
 use Rattle.peano_keys.specs.declared.dim.Dim.{Dim}
 use Rattle.peano_keys.specs.declared.dim.Dim.TheVariants.{Two, Three}
 use Rattle.peano_keys.specs.declared.cell.CellKey.{CellKey}
@@ -15,7 +15,7 @@ use Rattle.spacetree.proofs.CellMaps.{cells_total}
 use Rattle.spacetree.proofs.CellSets.{same_key, itself, kept_by_insert, has_inserted, inserted_cases}
 use Rattle.spacetree.proofs.Children.{parent_of_child, third_digit}
 use Rattle.step_world.proofs.Counts.{with_all, has_all, false_by}
-use Rattle.step_world.proofs.Exists.{or_left, or_after, or_one, true_told}
+use Rattle.spacetree.proofs.Told.{true_told}
 
 -- a cell that is new to a set makes it one larger
 one_larger : (s : Cells) (c : CellKey) → (set.contains s c ≡ true → ⊥) → set.len (set.insert s c) ≡ set.len s + 1
@@ -102,7 +102,7 @@ module _ (dim : Dim) where
   pub family_cases : (ps : List CellKey) (q : CellKey) → set.contains (families ps) q ≡ true → (q ≡ root) ⊎ IsChildIn ps q
   family_cases [] q h = ⊎_elim (λ e. inl e) (λ old. absurd (false≢true (sym (set.contains-empty key_cmp q) ∙ old))) (inserted_cases set.empty root q h)
   family_cases (p ∷ ps) q h = ⊎_elim
-      (λ old. ⊎_elim (λ e. inl e) (λ r. inr (r.0, r.1, or_after (eq_by_cmp key_cmp r.0 p) (is_among ps r.0) r.2, r.3, r.4)) (family_cases ps q old))
+      (λ old. ⊎_elim (λ e. inl e) (λ r. inr (r.0, r.1, or_right (eq_by_cmp key_cmp r.0 p) (is_among ps r.0) r.2, r.3, r.4)) (family_cases ps q old))
       (λ k. inr (p, k.0, or_left (eq_by_cmp key_cmp p p) (is_among ps p) (itself p), k.1, k.2))
       (first_cases (families ps) p fan q h)
 
@@ -115,7 +115,7 @@ module _ (dim : Dim) where
   family_has (o ∷ ps) p k h below = ⊎_elim
       (λ e. ap (λ q. set.contains (families (o ∷ ps)) (child q k)) (same_key p o e) ∙ first_has (families ps) o fan k below)
       (λ r. first_kept (families ps) o fan (child p k) (family_has ps p k r below))
-      (or_one (eq_by_cmp key_cmp p o) (is_among ps p) h)
+      (or_cases (eq_by_cmp key_cmp p o) (is_among ps p) h)
 
   -- they are the root and as many as each of the cells has children
   pub family_many : (ps : List CellKey) → ((p : CellKey) → is_among ps p ≡ true → length p.x ≡ 3) → set.len (families ps) ≡ 1 + fan * set.len (with_all set.empty ps)
@@ -125,7 +125,7 @@ module _ (dim : Dim) where
       omega (arith, one_larger set.empty root (λ h. false≢true (sym (set.contains-empty key_cmp root) ∙ h)), none, no_more)
   family_many (p ∷ ps) shapes =
       let shape : length p.x ≡ 3 = shapes p (or_left (eq_by_cmp key_cmp p p) (is_among ps p) (itself p)) in
-      let others : (q : CellKey) → is_among ps q ≡ true → length q.x ≡ 3 = λ q h. shapes q (or_after (eq_by_cmp key_cmp q p) (is_among ps q) h) in
+      let others : (q : CellKey) → is_among ps q ≡ true → length q.x ≡ 3 = λ q h. shapes q (or_right (eq_by_cmp key_cmp q p) (is_among ps q) h) in
       let rest = family_many ps others in
       elim (true_told (is_among ps p)) [
         | inl again ↦

@@ -8,7 +8,7 @@ use Rattle.std.specs.Cmp.{both_ways}
 use Rattle.std.specs.Ordering.{is_lt, is_eq}
 use Rattle.std.specs.declared.cmp.Ordering.{Ordering}
 use Rattle.std.specs.declared.cmp.Ordering.TheVariants.{Less, Equal, Greater}
-use Rattle.std.proofs.lemmas.Bool.{cases_eq}
+use Rattle.std.proofs.lemmas.Bool.{cases_eq, or_left, or_right, or_cases}
 use Rattle.std.proofs.lemmas.List.{length-map}
 use Rattle.peano_keys.specs.declared.dim.Dim.{Dim}
 use Rattle.peano_keys.specs.declared.cell.CellKey.{CellKey}
@@ -28,7 +28,7 @@ use Rattle.spacetree.proofs.Leaves.{leaf_from, leaf_there, not_leaf, parent_refi
 use Rattle.hanging_nodes.proofs.TwoGrids.{refined_there}
 use Rattle.step_world.specs.Counts.{EachOnce}
 use Rattle.step_world.proofs.Counts.{with_all, has_all, many, false_by}
-use Rattle.step_world.proofs.Exists.{or_left, or_after, or_one, true_told}
+use Rattle.spacetree.proofs.Told.{true_told}
 use Rattle.step_driver.specs.LeafCounts.{LeavesAreCounted, RowsAreLeaves}
 use Rattle.step_driver.proofs.Families.{in_list, child, digits_are, families, family_cases, family_root, family_has, family_many}
 
@@ -76,7 +76,7 @@ module _ (g : Spacetree) (grid : IsGrid 12 g) (leaves : List CellKey) (members :
   in_kinds : (c : CellKey) → IsCell g.dim c → has_cell g c ≡ true → set.contains both_kinds c ≡ true
   in_kinds c cell there = has_all g.refined leaves c ∙ ⊎_elim
       (λ refined. or_left (is_refined g c) (is_among leaves c) refined)
-      (λ apart. or_after (is_refined g c) (is_among leaves c) ((members c).1 (leaf_from g c cell there (false_by (is_refined g c) apart))))
+      (λ apart. or_right (is_refined g c) (is_among leaves c) ((members c).1 (leaf_from g c cell there (false_by (is_refined g c) apart))))
       (true_told (is_refined g c))
 
   in_families : (c : CellKey) → IsCell g.dim c → has_cell g c ≡ true → set.contains all_families c ≡ true
@@ -92,7 +92,7 @@ module _ (g : Spacetree) (grid : IsGrid 12 g) (leaves : List CellKey) (members :
   from_kinds c h = ⊎_elim
       (λ refined. in_families c (grid.cells c refined) (refined_there 12 g c grid refined))
       (λ among. let leaf = (members c).0 among in in_families c leaf.cell (leaf_there g c leaf))
-      (or_one (is_refined g c) (is_among leaves c) (sym (has_all g.refined leaves c) ∙ h))
+      (or_cases (is_refined g c) (is_among leaves c) (sym (has_all g.refined leaves c) ∙ h))
 
   listed_refined : (p : CellKey) → is_among (set.items g.refined) p ≡ true → is_refined g p ≡ true
   listed_refined p h = set.contains-items g.refined p ∙ h

@@ -3,7 +3,7 @@ use Rattle.std.proofs.Common.{◌≡◌, ◌⊎◌, inl, inr, ⊎_elim, ℕ, zer
 use Rattle.std.specs.FinSet as set
 use Rattle.std.specs.Cmp.{both_ways}
 use Rattle.std.specs.Ordering.{eq_by_cmp}
-use Rattle.std.proofs.lemmas.Bool.{cases_eq, false≢true}
+use Rattle.std.proofs.lemmas.Bool.{cases_eq, false≢true, or_left, or_right, or_cases}
 use Rattle.stack_law.specs.Once.{IsIn}
 use Rattle.peano_keys.specs.declared.dim.Dim.{Dim}
 use Rattle.peano_keys.specs.declared.cell.CellKey.{CellKey}
@@ -32,7 +32,7 @@ use Rattle.step_phases.proofs.Homes.{has_home, home_stands, slot_below}
 use Rattle.swept_slots.specs.Copies.{copies}
 use Rattle.swept_slots.proofs.Stores.{all_in, store_has_copies}
 use Rattle.swept_slots.proofs.Visited.{among_in}
-use Rattle.step_world.proofs.Exists.{or_left, or_after, or_one, among_first, among_second}
+use Rattle.spacetree.proofs.AllCells.{among_first, among_second}
 use Rattle.step_driver.specs.Stores.{no_store, store_of}
 use Rattle.step_driver.proofs.Places.{in_place, place_in}
 
@@ -70,11 +70,11 @@ among_either : (xs ys : List CellKey) (q : CellKey) → is_among (xs ++ ys) q �
 among_either [] ys q h = inr h
 among_either (x ∷ xs) ys q h = ⊎_elim
     (λ a. inl (or_left (eq_by_cmp key_cmp q x) (is_among xs q) a))
-    (λ b. ⊎_elim (λ l. inl (or_after (eq_by_cmp key_cmp q x) (is_among xs q) l)) (λ r. inr r) (among_either xs ys q b))
-    (or_one (eq_by_cmp key_cmp q x) (is_among (xs ++ ys) q) h)
+    (λ b. ⊎_elim (λ l. inl (or_right (eq_by_cmp key_cmp q x) (is_among xs q) l)) (λ r. inr r) (among_either xs ys q b))
+    (or_cases (eq_by_cmp key_cmp q x) (is_among (xs ++ ys) q) h)
 
 is_told : (b : Bool) (o : Option CellKey) (c : CellKey) → is_among (if_told b o) c ≡ true → (b ≡ true) × (o ≡ Some c)
-is_told true (Some q) c h = (refl, ap Some (sym (same_key c q (⊎_elim (λ a. a) (λ b. absurd (false≢true b)) (or_one (eq_by_cmp key_cmp c q) false h)))))
+is_told true (Some q) c h = (refl, ap Some (sym (same_key c q (⊎_elim (λ a. a) (λ b. absurd (false≢true b)) (or_cases (eq_by_cmp key_cmp c q) false h)))))
 is_told true None c h = absurd (false≢true h)
 is_told false o c h = absurd (false≢true h)
 

@@ -15,7 +15,7 @@ use Rattle.curve_cuts.specs.Cuts.{Cuts, IsCutGrid}
 use Rattle.vertex_stacks.specs.Tales.{capped}
 use Rattle.step_world.specs.Counts.{CountsCells, total}
 use Rattle.step_world.proofs.Worlds.{deep_grid}
-use Rattle.step_world.proofs.Exists.{next_exists}
+use Rattle.spacetree.proofs.Exists.{next_grid_exists}
 use Rattle.step_world.proofs.Counts.{splits_add_up, merges_add_up, next_size, size_decides}
 use Rattle.step_world.proofs.AtMost.{splits_at_most, merges_at_most}
 use Rattle.step_driver.specs.declared.finishing.Turnover.{Turnover}
@@ -58,7 +58,7 @@ module _ (dim : Dim) (cells : ℕ) (g : Spacetree) (marks : CellKey → Mark) (t
   -- what can be taken away is there
   pub room_for_merges : 3 ^ axes dim * turnover.merges ≤ cells + 3 ^ axes dim * turnover.splits
   room_for_merges =
-      let next = next_exists g marks h.grid in
+      let next = next_grid_exists g marks h.grid in
       let whole = next_size g next.0 marks turnover.splits turnover.merges h.grid next.1 h.splits h.merges in
       omega (arith, whole, h.size, fan_is turnover.splits, fan_is turnover.merges)
 

@@ -19,7 +19,7 @@ use Rattle.step_sweeps.specs.Kernels.{Kernel}
 use Rattle.step_world.specs.Failing.{Fails}
 use Rattle.step_world.specs.Notes.{by_trees, computing_notes, note_over, note_adapted}
 use Rattle.step_world.specs.Worlds.{RefinesAbove}
-use Rattle.step_world.proofs.Exists.{step_exists}
+use Rattle.spacetree.proofs.Exists.{step_exists}
 use Rattle.step_world.proofs.Worlds.{deep_grid, next_is_cut}
 use Rattle.step_driver.specs.declared.stepping.Findings.{Findings}
 use Rattle.step_driver.specs.Notes.{sizes_of, AddsFirst}

@@ -2,7 +2,7 @@
 use Rattle.std.proofs.Common.{◌≡◌, ◌↔◌, ℕ, suc, ◌+◌, Bool, true, false, List, [], ◌∷◌, ◌++◌, length, map, refl, ap, sym, ◌∙◌, subst, inl, inr, ⊎_elim, arith}
 use Rattle.std.specs.Prelude.{IsTrue, flat_map}
 use Rattle.std.specs.Ordering.{eq_by_cmp}
-use Rattle.std.proofs.lemmas.Bool.{false≢true}
+use Rattle.std.proofs.lemmas.Bool.{false≢true, or_left, or_right, or_cases}
 use Rattle.std.proofs.lemmas.Grind.{flat_map-append}
 use Rattle.std.proofs.lemmas.List.{map-append}
 use Rattle.stack_law.specs.Once.{IsIn}
@@ -20,7 +20,6 @@ use Rattle.sweep_visits.proofs.Same.{cells_decided}
 use Rattle.tree_automaton.specs.Story.{Call}
 use Rattle.tree_automaton.specs.Sweeps.{visit_of}
 use Rattle.step_world.specs.Counts.{EachOnce}
-use Rattle.step_world.proofs.Exists.{or_left, or_after, or_one}
 use Rattle.step_sweeps.specs.Secondaries.{one_if}
 
 -- a count goes on by one where something holds
@@ -57,9 +56,9 @@ counted_more cells P c before after new so_far more = by more.passes more.is mor
         (λ h. ⊎_elim
             (λ e. let same : q ≡ c = same_key q c e in subst (λ x. IsIn x (cells ++ c ∷ []) × P x) (sym same) (in_right (λ z. 0) c cells (c ∷ []) (inl refl), is.0 refl))
             (λ e. let old = (so_far.members q).0 e in (in_left (λ z. 0) q cells (c ∷ []) old.0, old.1))
-            (or_one (eq_by_cmp key_cmp q c) (is_among so_far.found q) h)),
+            (or_cases (eq_by_cmp key_cmp q c) (is_among so_far.found q) h)),
         (λ h. ⊎_elim
-            (λ old. or_after (eq_by_cmp key_cmp q c) (is_among so_far.found q) ((so_far.members q).1 (old, h.1)))
+            (λ old. or_right (eq_by_cmp key_cmp q c) (is_among so_far.found q) ((so_far.members q).1 (old, h.1)))
             (λ last. ⊎_elim (λ e. or_left (eq_by_cmp key_cmp q c) (is_among so_far.found q) (subst (λ x. eq_by_cmp key_cmp q x ≡ true) e (itself q))) (λ none. absurd none) last)
             (in_either q cells (c ∷ []) h.0)),
       );

@@ -20,7 +20,8 @@ use Rattle.spacetree.proofs.CellSets.{same_key, len_by_insert}
 use Rattle.spacetree.proofs.Leaves.{leaf_there}
 use Rattle.step_world.specs.Counts.{EachOnce, CountsCells, CountsAtMost}
 use Rattle.step_world.proofs.Counts.{with_all, has_all, false_by, many}
-use Rattle.step_world.proofs.Exists.{true_told, upto, cells_under, listed_under}
+use Rattle.spacetree.proofs.Told.{true_told}
+use Rattle.spacetree.proofs.AllCells.{upto, cells_under, listed_under}
 
 -- a cell that is listed once more
 again : (k q : CellKey) (ks : List CellKey) → is_among ks k ≡ true → is_among ks q ≡ (eq_by_cmp key_cmp q k || is_among ks q)

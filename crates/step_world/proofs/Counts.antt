@@ -3,7 +3,7 @@ use Rattle.std.proofs.Common.{◌≡◌, ◌⊎◌, inl, inr, ⊎_elim, ℕ, zer
 use Rattle.std.specs.FinSet as set
 use Rattle.std.specs.Cmp.{both_ways}
 use Rattle.std.specs.Ordering.{eq_by_cmp}
-use Rattle.std.proofs.lemmas.Bool.{false≢true, cases_eq}
+use Rattle.std.proofs.lemmas.Bool.{false≢true, cases_eq, or_left, or_right, or_cases}
 use Rattle.peano_keys.specs.declared.cell.CellKey.{CellKey}
 use Rattle.peano_keys.specs.Dim.{axes}
 use Rattle.peano_keys.specs.Cell.{IsCell, key_cmp}
@@ -19,7 +19,8 @@ use Rattle.curve_cuts.specs.Cuts.{Cuts, Owns, IsCutGrid}
 use Rattle.step_world.specs.Counts.{EachOnce, CountsCells, total, LeavesAddUp, SplitsAddUp, MergesAddUp, NextSize, SizeDecides}
 use Rattle.curve_cuts.proofs.Cuts.{owner_exists, owner_is_one}
 use Rattle.step_phases.proofs.Grids.{level_in}
-use Rattle.step_world.proofs.Exists.{or_left, or_after, or_one, among_first, among_second, merges_told, next_exists}
+use Rattle.spacetree.proofs.AllCells.{among_first, among_second}
+use Rattle.spacetree.proofs.Exists.{merges_told, next_grid_exists}
 
 -- a set with the cells of a list
 abbrev pub with_all : Cells → List CellKey → Cells
@@ -51,7 +52,7 @@ pub many : (s : Cells) (cs : List CellKey) → EachOnce cs → ((c : CellKey) �
 many s [] once apart = omega arith
 many s (c ∷ cs) once apart =
     let fresh : set.contains (with_all s cs) c ≡ false = has_all s cs c ∙ ap (λ b. set.contains s c || b) once.0 ∙ sym (or_false (set.contains s c)) ∙ false_by (set.contains s c) (λ h. apart c (itself_first c cs) h) in
-    let rest = many s cs once.1 (λ q h i. apart q (or_after (eq_by_cmp key_cmp q c) (is_among cs q) h) i) in
+    let rest = many s cs once.1 (λ q h i. apart q (or_right (eq_by_cmp key_cmp q c) (is_among cs q) h) i) in
     set.len-insert cells_total (with_all s cs) c ∙ ap (λ b. cond b (set.len (with_all s cs)) (set.len (with_all s cs) + 1)) fresh ∙ omega (arith, rest)
 
 pub next_size : NextSize
@@ -60,13 +61,13 @@ next_size g new marks splits merges grid next s m =
     let right = many g.refined s.cells s.once (λ c h i. let split = (s.members c).0 h in false≢true (sym (leaf_not g c split.leaf) ∙ i)) in
     let same : with_all new.refined m.cells ≡ with_all g.refined s.cells = set.same_set cells_total exact_cells _ _ (λ c. has_all new.refined m.cells c ∙ both_ways (is_refined new c || is_among m.cells c) (is_refined g c || is_among s.cells c)
     (λ h. ⊎_elim
-    (λ a. ⊎_elim (λ split. or_after (is_refined g c) (is_among s.cells c) ((s.members c).1 split)) (λ kept. or_left (is_refined g c) (is_among s.cells c) kept.0) ((next.refined c).0 a))
+    (λ a. ⊎_elim (λ split. or_right (is_refined g c) (is_among s.cells c) ((s.members c).1 split)) (λ kept. or_left (is_refined g c) (is_among s.cells c) kept.0) ((next.refined c).0 a))
     (λ b. or_left (is_refined g c) (is_among s.cells c) ((m.members c).0 b).refined)
-    (or_one (is_refined new c) (is_among m.cells c) h))
+    (or_cases (is_refined new c) (is_among m.cells c) h))
     (λ h. ⊎_elim
-    (λ a. ⊎_elim (λ gone. or_after (is_refined new c) (is_among m.cells c) ((m.members c).1 gone)) (λ stays. or_left (is_refined new c) (is_among m.cells c) ((next.refined c).1 (inr (a, stays)))) (merges_told g marks grid c))
+    (λ a. ⊎_elim (λ gone. or_right (is_refined new c) (is_among m.cells c) ((m.members c).1 gone)) (λ stays. or_left (is_refined new c) (is_among m.cells c) ((next.refined c).1 (inr (a, stays)))) (merges_told g marks grid c))
     (λ b. or_left (is_refined new c) (is_among m.cells c) ((next.refined c).1 (inl ((s.members c).0 b))))
-    (or_one (is_refined g c) (is_among s.cells c) h))
+    (or_cases (is_refined g c) (is_among s.cells c) h))
     ∙ sym (has_all g.refined s.cells c)) in
     let sizes : set.len new.refined + merges ≡ set.len g.refined + splits = omega (arith, left, right, ap set.len same, m.count, s.count) in
     let fan : ℕ = 3 ^ axes g.dim in
@@ -80,13 +81,13 @@ next_size g new marks splits merges grid next s m =
 -- lists one after another
 among_either : (xs ys : List CellKey) (q : CellKey) → is_among (xs ++ ys) q ≡ true → (is_among xs q ≡ true) ⊎ (is_among ys q ≡ true)
 among_either [] ys q h = inr h
-among_either (x ∷ xs) ys q h = ⊎_elim (λ a. inl (or_left (eq_by_cmp key_cmp q x) (is_among xs q) a)) (λ b. ⊎_elim (λ c. inl (or_after (eq_by_cmp key_cmp q x) (is_among xs q) c)) (λ d. inr d) (among_either xs ys q b)) (or_one (eq_by_cmp key_cmp q x) (is_among (xs ++ ys) q) h)
+among_either (x ∷ xs) ys q h = ⊎_elim (λ a. inl (or_left (eq_by_cmp key_cmp q x) (is_among xs q) a)) (λ b. ⊎_elim (λ c. inl (or_right (eq_by_cmp key_cmp q x) (is_among xs q) c)) (λ d. inr d) (among_either xs ys q b)) (or_cases (eq_by_cmp key_cmp q x) (is_among (xs ++ ys) q) h)
 
 joined : (xs ys : List CellKey) → EachOnce xs → EachOnce ys → ((c : CellKey) → is_among xs c ≡ true → is_among ys c ≡ true → ⊥) → EachOnce (xs ++ ys)
 joined [] ys a b apart = b
 joined (x ∷ xs) ys a b apart = (
   false_by (is_among (xs ++ ys) x) (λ h. ⊎_elim (λ i. false≢true (sym a.0 ∙ i)) (λ j. apart x (itself_first x xs) j) (among_either xs ys x h)),
-  joined xs ys a.1 b (λ c h i. apart c (or_after (eq_by_cmp key_cmp c x) (is_among xs c) h) i),
+  joined xs ys a.1 b (λ c h i. apart c (or_right (eq_by_cmp key_cmp c x) (is_among xs c) h) i),
 )
 
 -- counts of trees, one after another
@@ -139,6 +140,6 @@ leaves_add_up k g n fits each = add_up k g (IsLeafOf g) n fits each (λ c leaf. 
 
 pub size_decides : SizeDecides
 size_decides updated marked g f splits merges cells grid updates s m size over =
-    let next = next_exists g (marks_of marked g f) grid in
+    let next = next_grid_exists g (marks_of marked g f) grid in
     let whole = next_size g next.0 (marks_of marked g f) splits merges grid next.1 s m in
     record { updates = updates; grid = record { next = (next.0, next.1, omega (arith, whole, size)); crowded = over } }

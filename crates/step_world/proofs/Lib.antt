@@ -1,4 +1,3 @@
-pub mod Exists
 pub mod Worlds
 pub mod Parts
 pub mod Failing

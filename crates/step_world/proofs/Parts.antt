@@ -19,7 +19,7 @@ use Rattle.spacetree.specs.Fields.{IsFieldOn}
 use Rattle.spacetree.proofs.NextGrids.{source_is_leaf}
 use Rattle.spacetree.proofs.Values.{count_at_leaf, count_at_centre, count_at_cover, away_unrefined}
 use Rattle.step_world.specs.Steps.{StepKeepsParts}
-use Rattle.step_world.proofs.Exists.{leaf_told}
+use Rattle.spacetree.proofs.Told.{leaf_told}
 use Rattle.step_world.proofs.Worlds.{field_of_next}
 
 next_within : (up : Bool) (e x y : ℕ) → x < e → Next up e x y → y < e

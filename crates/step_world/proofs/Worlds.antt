@@ -30,7 +30,7 @@ use Rattle.step_values.specs.Values.{change_of}
 use Rattle.step_values.proofs.Values.{step_is_change, value_shows_leaves}
 use Rattle.step_world.specs.Steps.{NextIsCut, KeptGridStays}
 use Rattle.step_world.specs.Worlds.{StandFor, StandForOne, StartStands, StepStands, PlainStepStands, RunGoesOn, RunEnds}
-use Rattle.step_world.proofs.Exists.{is_refine, is_coarsen, leaf_told}
+use Rattle.spacetree.proofs.Told.{is_refine, is_coarsen, leaf_told}
 
 pub next_is_cut : NextIsCut
 next_is_cut k old new marks fits next deep = record {

@@ -1,5 +1,5 @@
--- Next grids and next fields: that there are such, and which trees they are for.
-use Rattle.std.specs.Prelude.{◌≡◌, ◌<◌, ℕ, Some, IsSome}
+-- Next grids and next fields: which trees they are for, and how many values their states have.
+use Rattle.std.specs.Prelude.{◌≡◌, ◌<◌, ℕ, Some}
 use Rattle.peano_keys.specs.declared.cell.CellKey.{CellKey}
 use Rattle.peano_keys.specs.declared.state.State.{State}
 use Rattle.peano_keys.specs.declared.side.Sides.{Sides}
@@ -9,7 +9,7 @@ use Rattle.peano_keys.specs.State.{count_of}
 use Rattle.peano_keys.specs.Grid.{Spacetree, IsGrid}
 use Rattle.peano_keys.specs.Field.{States}
 use Rattle.peano_keys.specs.Next.{IsNextGrid}
-use Rattle.solver_api.specs.Step.{UpdateRule, MarkRule, IsLeafOf, IsStep, new_state}
+use Rattle.solver_api.specs.Step.{UpdateRule, MarkRule, IsStep}
 use Rattle.solver_api.specs.Parts.{HaveParts}
 use Rattle.spacetree.specs.Fields.{IsFieldOn}
 use Rattle.curve_cuts.specs.Cuts.{Cuts, IsCutGrid}
@@ -17,14 +17,6 @@ use Rattle.curve_cuts.specs.Cuts.{Cuts, IsCutGrid}
 -- the next grid is one for the same trees
 abbrev pub NextIsCut : Type 0
 NextIsCut = (k : Cuts) (old new : Spacetree) (marks : CellKey → Mark) → IsCutGrid k old → IsNextGrid old marks new → ((c : CellKey) → marks c ≡ Refine → c.level < k.depth) → IsCutGrid k new
-
--- marks always make a next grid
-abbrev pub NextExists : Type 0
-NextExists = (g : Spacetree) (marks : CellKey → Mark) → IsGrid 12 g → (new : Spacetree) × IsNextGrid g marks new
-
--- where each leaf has a new state, there is a step
-abbrev pub StepExists : Type 0
-StepExists = (updated : UpdateRule) (marked : MarkRule) (g : Spacetree) (f : States) → IsGrid 12 g → ((c : CellKey) → IsLeafOf g c → IsSome (new_state updated g f c)) → (new : Spacetree) × (after : States) × IsStep updated marked g f new after
 
 -- a solver's new states have as many values as the old ones
 abbrev pub KeepsParts : ℕ → UpdateRule → Type 0

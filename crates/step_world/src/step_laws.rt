@@ -1,19 +1,9 @@
 //! Laws of next grids and next fields.
-ghost use Rattle.step_world.specs.Steps.{NextIsCut, NextExists, StepExists, StepKeepsParts, KeptGridStays};
+ghost use Rattle.step_world.specs.Steps.{NextIsCut, StepKeepsParts, KeptGridStays};
 
 /// The next grid is one for the same trees.
 pub fn next_is_cut()
     ensures { NextIsCut }
-{}
-
-/// Marks always make a next grid.
-pub fn next_exists()
-    ensures { NextExists }
-{}
-
-/// Where each leaf has a new state, there is a step.
-pub fn step_exists()
-    ensures { StepExists }
 {}
 
 /// The states of the next field have as many values as those of the old one.
