@@ -14,11 +14,7 @@ use Rattle.curve_cuts.specs.Keys.{CutPoints, first_leaf}
 use Rattle.curve_cuts.specs.Leaves.{AreLeaves, RiseAlong}
 use Rattle.step_driver.specs.Starts.{AreFirstKeys}
 use Rattle.step_driver.proofs.Places.{in_place, place_in}
-
--- a number rises from item to item
-abbrev Rises : (CellKey → ℕ) → List CellKey → Type 0
-Rises f [] = Unit {0}
-Rises f (x ∷ xs) = ((c : CellKey) → IsIn c xs → f x < f c) × Rises f xs
+use Rattle.step_driver.proofs.Rising.{Rises, rises}
 
 -- such lists of the same items are one
 rise_same : (f : CellKey → ℕ) (xs ys : List CellKey) → Rises f xs → Rises f ys → ((c : CellKey) → IsIn c xs → IsIn c ys) → ((c : CellKey) → IsIn c ys → IsIn c xs) → xs ≡ ys
@@ -30,16 +26,6 @@ rise_same f (x ∷ xs) (y ∷ ys) a b to fro =
     ap₂ (λ z zs. z ∷ zs) same (rise_same f xs ys a.1 b.1
     (λ c h. ⊎_elim (λ e. absurd (let up = a.0 c h in let at : f c ≡ f x = ap f (e ∙ sym same) in omega (arith, up, at))) (λ k. k) (to c (inr h)))
     (λ c h. ⊎_elim (λ e. absurd (let up = b.0 c h in let at : f c ≡ f y = ap f (e ∙ same) in omega (arith, up, at))) (λ k. k) (fro c (inr h))))
-
-rises : (dim : Dim) (depth : ℕ) (xs : List CellKey) → RiseAlong dim depth xs → Rises (λ c. interval_start dim c depth) xs
-rises dim depth [] h = tt
-rises dim depth (x ∷ xs) h = (
-  λ c there.
-      let p = in_place c c xs there in
-      let inside = p.1 in
-      subst (λ z. interval_start dim x depth < interval_start dim z depth) p.2 (h 0 (suc p.0) c (omega arith) (omega (arith, inside))),
-  rises dim depth xs (λ i j d below inside. h (suc i) (suc j) d (omega (arith, below)) (omega (arith, inside))),
-)
 
 contains_in : (c : CellKey) (xs : List CellKey) → Contains xs c → IsIn c xs
 contains_in c xs h = subst (λ z. IsIn z xs) h.2 (place_in c xs h.0 h.1)

@@ -13,7 +13,7 @@ use Rattle.peano_keys.specs.declared.cell.CellKey.{CellKey}
 use Rattle.peano_keys.specs.declared.vertex.VertexKey.{VertexKey}
 use Rattle.peano_keys.specs.Dim.{corners}
 use Rattle.peano_keys.specs.Cell.{IsCell}
-use Rattle.peano_keys.specs.Vertex.{IsVertex}
+use Rattle.peano_keys.specs.Vertex.{IsVertex, corner_of}
 use Rattle.peano_keys.specs.Grid.{Spacetree}
 use Rattle.peano_curve.specs.declared.order.Direction.{Direction}
 use Rattle.peano_curve.specs.Run.{HoldsCell}
@@ -49,7 +49,7 @@ told_else P Q n is many = record {
 }
 
 module _ (k : Cuts) (t : ℕ) (dir : Direction) (g : Spacetree) (fits : IsCutGrid k g) (tree : t < k.trees) where
-  abbrev plan : SweepPlan
+  abbrev pub plan : SweepPlan
   plan = plain_plan k.depth (range_of k t) dir g
 
   is_plan : IsSweepPlan plan
@@ -62,7 +62,7 @@ module _ (k : Cuts) (t : ℕ) (dir : Direction) (g : Spacetree) (fits : IsCutGri
   lists = (each_held_cell_once plan is_plan).1
 
   -- the cells that are left are those that the tree holds
-  holds : (c : CellKey) → IsIn c left → HoldsCellOf k g t c
+  pub holds : (c : CellKey) → IsIn c left → HoldsCellOf k g t c
   holds c h =
       let held = (lists.members c).0 h in
       record {
@@ -78,8 +78,16 @@ module _ (k : Cuts) (t : ℕ) (dir : Direction) (g : Spacetree) (fits : IsCutGri
     passes = ap (λ b. b || b) h.there;
   })
 
+  -- a corner of such a cell is a vertex
+  pub corner_vertex : (c : CellKey) (n : ℕ) → HoldsCellOf k g t c → n < corners g.dim → IsVertex g.dim (corner_of c n)
+  corner_vertex c n h below = let held = (lists.members c).0 (is_left c h) in (corners_have_runs plan c n held.cell held.held below).0
+
+  -- none is left twice
+  pub left_once : NoneTwice left
+  left_once = distinct_cells left lists.distinct
+
   pub cells_many : AreSoMany (HoldsCellOf k g t) (length left)
-  cells_many = record { things = left; lists = record { once = distinct_cells left lists.distinct; members = λ c. (holds c, is_left c) }; count = refl }
+  cells_many = record { things = left; lists = record { once = left_once; members = λ c. (holds c, is_left c) }; count = refl }
 
   -- a leaf that the tree owns is one of them
   pub own_left : (c : CellKey) → OwnsLeaf k g t c → IsIn c left

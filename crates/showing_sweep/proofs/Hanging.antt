@@ -36,7 +36,7 @@ abbrev pub numbers : ℕ → ℕ → List ℕ
 numbers m zero = []
 numbers m (suc k) = m ∷ numbers (m + 1) k
 
-in_numbers : (m k n : ℕ) → IsIn n (numbers m k) → (m ≤ n) × (n < m + k)
+pub in_numbers : (m k n : ℕ) → IsIn n (numbers m k) → (m ≤ n) × (n < m + k)
 in_numbers m zero n h = absurd h
 in_numbers m (suc k) n (inl e) = (omega (arith, e), omega (arith, e))
 in_numbers m (suc k) n (inr h) = let r = in_numbers (m + 1) k n h in (omega (arith, r.0), omega (arith, r.1))
@@ -45,7 +45,7 @@ pub from_between : (m k n : ℕ) → m ≤ n → n < m + k → IsIn n (numbers m
 from_between m zero n low high = absurd (omega (arith, low, high))
 from_between m (suc k) n low high = ⊎_elim (λ above. inr (from_between (m + 1) k n (omega (arith, above)) (omega (arith, high)))) (λ least. inl (omega (arith, low, least))) (cases_lt m n)
 
-numbers_once : (m k : ℕ) → NoneTwice (numbers m k)
+pub numbers_once : (m k : ℕ) → NoneTwice (numbers m k)
 numbers_once m zero = tt
 numbers_once m (suc k) = ((λ h. absurd (let r = in_numbers (m + 1) k m h in omega (arith, r.0))), numbers_once (m + 1) k)
 

@@ -8,3 +8,5 @@ pub mod Amounts
 pub mod Swept
 pub mod Whole
 pub mod Exact
+pub mod AmountsTold
+pub mod AmountsExist

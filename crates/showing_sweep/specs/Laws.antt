@@ -1,14 +1,18 @@
 -- Laws of the traffic of trees.
-use Rattle.std.specs.Prelude.{◌≡◌, ℕ, ◌≤◌}
+use Rattle.std.specs.Prelude.{◌≡◌, ℕ, ◌<◌, ◌≤◌}
 use Rattle.peano_keys.specs.Grid.{Spacetree}
 use Rattle.spacetree.specs.Counts.{cells_of}
-use Rattle.curve_cuts.specs.Cuts.{Cuts}
+use Rattle.curve_cuts.specs.Cuts.{Cuts, IsCutGrid}
 use Rattle.field_report.specs.declared.traffic.Traffic.{Traffic}
 use Rattle.showing_sweep.specs.Shown.{Amounts, AreAmounts, IsTraffic}
 
 -- the numbers of a tree are one
 abbrev pub AmountsAreOne : Type 0
 AmountsAreOne = (k : Cuts) (g : Spacetree) (t : ℕ) (n m : Amounts) → AreAmounts k g t n → AreAmounts k g t m → n ≡ m
+
+-- and each tree has them
+abbrev pub AmountsExist : Type 0
+AmountsExist = (k : Cuts) (g : Spacetree) (t : ℕ) → IsCutGrid k g → t < k.trees → (n : Amounts) × AreAmounts k g t n
 
 -- the numbers that traffic tells
 abbrev pub amounts_in : Traffic → Amounts

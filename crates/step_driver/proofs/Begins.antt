@@ -34,7 +34,7 @@ module _ (depth : ℕ) (g : Spacetree) (grid : IsGrid depth g) where
   begins_in a = let w = width_positive g.dim (depth - a.level) in (omega arith, omega (arith, w))
 
   -- two leaves that begin at one position are one
-  one_leaf : (a b : CellKey) → IsLeafOf g a → IsLeafOf g b → interval_start g.dim a depth ≡ interval_start g.dim b depth → a ≡ b
+  pub one_leaf : (a b : CellKey) → IsLeafOf g a → IsLeafOf g b → interval_start g.dim a depth ≡ interval_start g.dim b depth → a ≡ b
   one_leaf a b leaf_a leaf_b e = leaves_share_none depth g a b (interval_start g.dim a depth) grid leaf_a.cell leaf_b.cell leaf_a.leaf leaf_b.leaf (begins_in a) (subst (Holds (interval_of g.dim b depth)) (sym e) (begins_in b))
 
   module _ (m n : BTreeMap ℕ CellKey) (c : CellKey) (s : ℕ) (leaf : IsLeafOf g c) (begins : s ≡ interval_start g.dim c depth) (updated : (q : ℕ) → tree.get nat_cmp n q ≡ cond (is_eq (nat_cmp s q)) (Some c) (tree.get nat_cmp m q)) where

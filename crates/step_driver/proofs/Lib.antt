@@ -24,3 +24,6 @@ pub mod InOrder
 pub mod Rests
 pub mod Families
 pub mod LeafCounts
+pub mod Rising
+pub mod KeysExist
+pub mod TrafficExists

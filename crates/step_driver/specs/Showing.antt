@@ -4,7 +4,7 @@ use Rattle.std.specs.FinMap as fin
 use Rattle.peano_keys.specs.Grid.{Spacetree}
 use Rattle.peano_keys.specs.Field.{States}
 use Rattle.peano_curve.specs.declared.order.Direction.{Direction}
-use Rattle.curve_cuts.specs.Cuts.{Cuts}
+use Rattle.curve_cuts.specs.Cuts.{Cuts, IsCutGrid}
 use Rattle.curve_cuts.specs.Keys.{cuts_of}
 use Rattle.spacetree.specs.declared.row.Row.{Row}
 use Rattle.spacetree.specs.Fields.{rows_of}
@@ -68,9 +68,13 @@ pub record TellTraffic (k : Cuts) (g : Spacetree) (list : List Traffic) : Type 0
   pub count : length list ≡ k.trees
   pub each : (t : ℕ) (d : Traffic) → t < k.trees → TellsTraffic k g t (slice_index_or list t d)
 
--- there is one such list
+-- there is no other such list
 abbrev pub OneTraffic : Type 0
 OneTraffic = (k : Cuts) (g : Spacetree) (first second : List Traffic) → TellTraffic k g first → TellTraffic k g second → first ≡ second
+
+-- and there is one
+abbrev pub TrafficExists : Type 0
+TrafficExists = (k : Cuts) (g : Spacetree) → IsCutGrid k g → (list : List Traffic) × TellTraffic k g list
 
 -- All trees were shown, which are at a grid and a field: the rows of the field in key order, and the traffic of each tree. They are still there.
 pub record ShowTrees (parts : ℕ) (k : Cuts) (g : Spacetree) (f : States) (step cells : ℕ) (stores : List TreeLists) (old new : List Note) (shown : Shown) : Type 0 where

@@ -1,11 +1,11 @@
 -- How a world starts.
-use Rattle.std.specs.Prelude.{◌≡◌, ℕ, ◌<◌, List, length}
+use Rattle.std.specs.Prelude.{◌≡◌, ℕ, ◌<◌, ◌≤◌, List, length}
 use Rattle.peano_keys.specs.declared.cell.CellKey.{CellKey}
-use Rattle.peano_keys.specs.Grid.{Spacetree}
+use Rattle.peano_keys.specs.Grid.{Spacetree, IsGrid}
 use Rattle.peano_keys.specs.Field.{States, value_of}
 use Rattle.peano_curve.specs.declared.order.Direction.TheVariants.{Backward}
-use Rattle.curve_cuts.specs.Cuts.{Cuts, range_of}
-use Rattle.curve_cuts.specs.Keys.{CutPoints, AreEqualCuts}
+use Rattle.curve_cuts.specs.Cuts.{Cuts, IsCutGrid, range_of}
+use Rattle.curve_cuts.specs.Keys.{CutPoints, AreEqualCuts, cuts_of}
 use Rattle.curve_cuts.specs.Leaves.{AreLeaves}
 use Rattle.vertex_stacks.specs.Notes.{Note}
 use Rattle.vertex_stacks.specs.Tales.{no_tale, with_note}
@@ -20,6 +20,10 @@ use Rattle.step_driver.specs.Notes.{sizes_of, HaveTales}
 -- the keys of so many trees with which a run over a grid starts: equal shares of the grid's leaves, in the order of the curve
 abbrev pub AreFirstKeys : ℕ → Spacetree → ℕ → CutPoints → Type 0
 AreFirstKeys depth g trees keys = (leaves : List CellKey) × AreLeaves g.dim depth g leaves × AreEqualCuts g.dim depth leaves trees keys
+
+-- there are such keys for each grid, which is one for their trees
+abbrev pub FirstKeysExist : Type 0
+FirstKeysExist = (depth : ℕ) (g : Spacetree) (trees : ℕ) → depth ≤ 12 → IsGrid depth g → 1 ≤ trees → trees ≤ 64 → (keys : CutPoints) × AreFirstKeys depth g trees keys × IsCutGrid (cuts_of keys) g
 
 -- a tree raised from a grid and a field: the lists of a store at rest, copies that are raised, and one note
 pub record IsRaisedStore (k : Cuts) (g : Spacetree) (f : States) (t : ℕ) (s : TreeLists) : Type 0 where

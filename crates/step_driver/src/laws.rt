@@ -1,7 +1,8 @@
 //! Laws of worlds.
 ghost use Rattle.step_driver.specs.Worlds.{WorldIsAtOne, WorldStands};
 ghost use Rattle.step_driver.specs.LeafCounts.{LeavesAreCounted, RowsAreLeaves};
-ghost use Rattle.step_driver.specs.Showing.{OneTraffic};
+ghost use Rattle.step_driver.specs.Showing.{OneTraffic, TrafficExists};
+ghost use Rattle.step_driver.specs.Starts.{FirstKeysExist};
 
 use solver_api::Solver;
 
@@ -18,6 +19,16 @@ pub fn world_stands<S: Solver>()
 /// The traffic of all trees is one list.
 pub fn one_traffic()
     ensures { OneTraffic }
+{}
+
+/// There is traffic of all trees to tell.
+pub fn traffic_exists()
+    ensures { TrafficExists }
+{}
+
+/// There are keys to start with for each grid.
+pub fn first_keys_exist()
+    ensures { FirstKeysExist }
 {}
 
 /// The leaves of a grid are as many as its cells without the refined ones.
