@@ -3,3 +3,4 @@ pub mod Lists
 pub mod Searches
 pub mod Steps
 pub mod Ranges
+pub mod FileRange

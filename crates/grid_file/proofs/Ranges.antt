@@ -292,7 +292,7 @@ body_range dim depth solver t deep base h =
     }
 
 -- the plan of a document in which nothing is refused
-plan_range : (t : Members) → first_fault t ≡ None → IsPlan (plan_in t)
+pub plan_range : (t : Members) → first_fault t ≡ None → IsPlan (plan_in t)
 plan_range t h =
     let unlisted = both_none _ _ h in
     let missing = both_none _ _ unlisted.1 in
