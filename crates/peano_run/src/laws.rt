@@ -1,5 +1,10 @@
 //! A file has one outcome: whatever `run` answers, no other answer would have been right, but for want of memory.
-ghost use Rattle.peano_run.specs.Outcome.{OneReport, NoneIsBoth, OneRefusal, OneSummary};
+ghost use Rattle.peano_run.specs.Outcome.{EachFileHasAnOutcome, OneReport, NoneIsBoth, OneRefusal, OneSummary};
+
+/// Each file has a report, or is refused for another reason than want of memory.
+pub fn each_file_has_an_outcome()
+    ensures { EachFileHasAnOutcome }
+{}
 
 /// A file has at most one report.
 pub fn one_report()
