@@ -17,12 +17,11 @@ use Rattle.peano_keys.specs.Grid.{Spacetree}
 use Rattle.curve_cuts.specs.Cuts.{Cuts}
 use Rattle.curve_cuts.specs.Enclave.{IsEnclave, IsSkeleton, OwnsLeaf}
 use Rattle.curve_cuts.proofs.Cuts.{owner_holds}
-use Rattle.spacetree.specs.Counts.{cells_of}
+use Rattle.spacetree.specs.Counts.{EachOnce, cells_of}
 use Rattle.spacetree.specs.Leaves.{is_among}
 use Rattle.spacetree.proofs.CellSets.{same_key}
 use Rattle.spacetree.proofs.Leaves.{leaf_there}
 use Rattle.vertex_stacks.specs.Tales.{capped}
-use Rattle.step_world.specs.Counts.{EachOnce}
 use Rattle.step_world.proofs.AtMost.{counts_at_most}
 use Rattle.step_sweeps.proofs.OwnCounts.{false_by}
 use Rattle.showing_sweep.specs.Counts.{AreSoMany, NoneTwice}

@@ -38,7 +38,7 @@ one_added ks js s h = set.same_set cells_total exact_cells _ _ (λ q.
     contains_cell js q ∙ h q ∙ ap (λ b. cond b true (is_among ks q)) ((eq_by_cmp_equiv cells_total).symm s q) ∙ or_cond (is_eq (key_cmp q s)) (is_among ks q)
     ∙ sym (set.contains-insert cells_total (set.from_list ks) s q ∙ ap (λ b. eq_by_cmp key_cmp q s || b) (contains_cell ks q)))
 
-none_of : (x : CellKey) (xs : List CellKey) → AllByRecursion (λ y. eq_by_cmp key_cmp x y ≡ false) xs → is_among xs x ≡ false
+pub none_of : (x : CellKey) (xs : List CellKey) → AllByRecursion (λ y. eq_by_cmp key_cmp x y ≡ false) xs → is_among xs x ≡ false
 none_of x [] h = refl
 none_of x (y ∷ ys) h = rw h.0 (none_of x ys h.1)
 

@@ -18,3 +18,9 @@ pub mod Collected
 pub mod Exists
 pub mod OpeningExists
 pub mod LeadsOn
+pub mod CountedSets
+pub mod Families
+pub mod LeafCounts
+pub mod Corners
+pub mod Covering
+pub mod Merged

@@ -43,13 +43,13 @@ stable true h = refl
 stable false h = absurd (h (λ e. false≢true e))
 
 -- the cell whose child does not merge with its siblings does not merge
-stays_if_child : (t : Spacetree) (marks : CellKey → Mark) (c : CellKey) → IsCell t.dim c → 0 < c.level → ((is_leaf t c ≡ true) × (marks c ≡ Coarsen) → ⊥) → Merges t marks (parent_of c) → ⊥
+pub stays_if_child : (t : Spacetree) (marks : CellKey → Mark) (c : CellKey) → IsCell t.dim c → 0 < c.level → ((is_leaf t c ≡ true) × (marks c ≡ Coarsen) → ⊥) → Merges t marks (parent_of c) → ⊥
 stays_if_child t marks c cell pos apart m =
     let digits = digits_are t.dim c cell in
     let same = its_own_child c cell.shape pos in
     apart (subst (λ (k : CellKey). is_leaf t k ≡ true) same (m.leaves (digits_in c) digits), subst (λ (k : CellKey). marks k ≡ Coarsen) same (m.marked (digits_in c) digits))
 
-leaf_refined : (t : Spacetree) (c : CellKey) → is_refined t c ≡ true → is_leaf t c ≡ true → ⊥
+pub leaf_refined : (t : Spacetree) (c : CellKey) → is_refined t c ≡ true → is_leaf t c ≡ true → ⊥
 leaf_refined t c h = go (has_cell t c) (is_refined t c) h where
   go : (a b : Bool) → b ≡ true → (a && not b) ≡ true → ⊥
   go true true h e = false≢true e

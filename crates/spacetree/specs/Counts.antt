@@ -1,9 +1,11 @@
--- How many cells and leaves a grid has.
-use Rattle.std.specs.Prelude.{ℕ, ◌+◌, ◌-◌, ◌*◌, ◌^◌}
+-- How many cells and leaves a grid has, by formula, and what counting is.
+use Rattle.std.specs.Prelude.{◌≡◌, ◌↔◌, ℕ, ◌+◌, ◌-◌, ◌*◌, ◌^◌, true, false, List, [], ◌∷◌, length}
 use Rattle.std.specs.FinSet as set
 use Rattle.peano_keys.specs.declared.dim.Dim.{Dim}
+use Rattle.peano_keys.specs.declared.cell.CellKey.{CellKey}
 use Rattle.peano_keys.specs.Dim.{axes}
 use Rattle.peano_keys.specs.Grid.{Spacetree}
+use Rattle.spacetree.specs.Leaves.{is_among}
 
 -- the root, and the children of each of so many refined cells
 abbrev pub cells_for : Dim → ℕ → ℕ
@@ -16,3 +18,15 @@ cells_of t = cells_for t.dim (set.len t.refined)
 -- the number of leaves of a grid: of its cells, those that are not refined
 abbrev pub leaves_of : Spacetree → ℕ
 leaves_of t = cells_of t - set.len t.refined
+
+-- no cell stands twice
+abbrev pub EachOnce : List CellKey → Type 0
+EachOnce [] = Unit {0}
+EachOnce (c ∷ cs) = (is_among cs c ≡ false) × EachOnce cs
+
+-- of so many cells something is true
+pub record CountsCells (P : CellKey → Type 0) (n : ℕ) : Type 0 where
+  pub cells : List CellKey
+  pub members : (c : CellKey) → (is_among cells c ≡ true) ↔ P c
+  pub once : EachOnce cells
+  pub count : length cells ≡ n

@@ -13,7 +13,8 @@ use Rattle.vertex_stacks.specs.Notes.{Note}
 use Rattle.vertex_stacks.specs.Tales.{capped, with_note}
 use Rattle.tree_automaton.specs.TreeLists.{TreeLists}
 use Rattle.step_phases.specs.Change.{Change}
-use Rattle.step_world.specs.Counts.{CountsCells, total}
+use Rattle.spacetree.specs.Counts.{CountsCells}
+use Rattle.step_world.specs.Counts.{total}
 use Rattle.step_world.specs.Notes.{note_over}
 use Rattle.step_sweeps.specs.declared.tally.Tally.{Tally}
 use Rattle.step_sweeps.specs.Sweeps.{IsMarked, CountsOwn, IsSecondarySwept}

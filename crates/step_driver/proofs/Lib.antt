@@ -22,7 +22,6 @@ pub mod Advances
 pub mod Showns
 pub mod InOrder
 pub mod Rests
-pub mod Families
 pub mod LeafCounts
 pub mod Rising
 pub mod KeysExist

@@ -9,11 +9,11 @@ use Rattle.peano_keys.specs.Grid.{Spacetree}
 use Rattle.peano_keys.specs.Field.{States}
 use Rattle.peano_keys.specs.Next.{Splits, Merges, IsNextGrid}
 use Rattle.solver_api.specs.Step.{UpdateRule, MarkRule, IsLeafOf, marks_of, new_state}
-use Rattle.spacetree.specs.Counts.{cells_of}
+use Rattle.spacetree.specs.Counts.{CountsCells, cells_of}
 use Rattle.spacetree.specs.Evaluation.{Crowds}
 use Rattle.curve_cuts.specs.Cuts.{Cuts, IsCutGrid}
 use Rattle.vertex_stacks.specs.Tales.{capped}
-use Rattle.step_world.specs.Counts.{CountsCells, total}
+use Rattle.step_world.specs.Counts.{total}
 use Rattle.step_world.proofs.Worlds.{deep_grid}
 use Rattle.spacetree.proofs.Exists.{next_grid_exists}
 use Rattle.step_world.proofs.Counts.{splits_add_up, merges_add_up, next_size, size_decides}

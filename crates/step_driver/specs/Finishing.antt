@@ -16,7 +16,8 @@ use Rattle.step_phases.specs.Change.{Change}
 use Rattle.step_phases.specs.Phases.{AfterSecondary}
 use Rattle.step_phases.specs.Sweeps.{IsSwept, SecondaryChanges}
 use Rattle.swept_slots.specs.Copies.{copies}
-use Rattle.step_world.specs.Counts.{CountsCells, total}
+use Rattle.spacetree.specs.Counts.{CountsCells}
+use Rattle.step_world.specs.Counts.{total}
 use Rattle.step_world.specs.Notes.{note_over, by_trees}
 use Rattle.step_sweeps.specs.declared.tally.Tally.{Tally}
 use Rattle.step_sweeps.specs.Sweeps.{IsMarked, IsSecondarySwept}

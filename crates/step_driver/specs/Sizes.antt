@@ -6,8 +6,7 @@ use Rattle.peano_keys.specs.declared.side.Mark.{Mark}
 use Rattle.peano_keys.specs.Dim.{axes}
 use Rattle.peano_keys.specs.Grid.{Spacetree, IsGrid}
 use Rattle.peano_keys.specs.Next.{Splits, Merges}
-use Rattle.spacetree.specs.Counts.{cells_of}
-use Rattle.step_world.specs.Counts.{CountsCells}
+use Rattle.spacetree.specs.Counts.{CountsCells, cells_of}
 use Rattle.step_driver.specs.declared.finishing.Turnover.{Turnover}
 
 -- of a grid with so many cells, so many split by some marks and so many merge

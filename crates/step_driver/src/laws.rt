@@ -1,6 +1,5 @@
 //! Laws of worlds.
 ghost use Rattle.step_driver.specs.Worlds.{WorldIsAtOne, WorldStands};
-ghost use Rattle.step_driver.specs.LeafCounts.{LeavesAreCounted, RowsAreLeaves};
 ghost use Rattle.step_driver.specs.Showing.{OneTraffic, TrafficExists};
 ghost use Rattle.step_driver.specs.Starts.{FirstKeysExist};
 
@@ -29,14 +28,4 @@ pub fn traffic_exists()
 /// There are keys to start with for each grid.
 pub fn first_keys_exist()
     ensures { FirstKeysExist }
-{}
-
-/// The leaves of a grid are as many as its cells without the refined ones.
-pub fn leaves_are_counted()
-    ensures { LeavesAreCounted }
-{}
-
-/// A field has as many rows as its grid has leaves.
-pub fn rows_are_leaves()
-    ensures { RowsAreLeaves }
 {}

@@ -19,7 +19,7 @@ use Rattle.sweep_visits.specs.Visits.{Visit}
 use Rattle.sweep_visits.proofs.Same.{cells_decided}
 use Rattle.tree_automaton.specs.Story.{Call}
 use Rattle.tree_automaton.specs.Sweeps.{visit_of}
-use Rattle.step_world.specs.Counts.{EachOnce}
+use Rattle.spacetree.specs.Counts.{EachOnce}
 use Rattle.step_sweeps.specs.Secondaries.{one_if}
 
 -- a count goes on by one where something holds

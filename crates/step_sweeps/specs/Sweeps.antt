@@ -23,7 +23,7 @@ use Rattle.step_phases.specs.Change.{Change}
 use Rattle.step_phases.specs.Phases.{AfterFirst, AfterSecondary}
 use Rattle.step_phases.specs.Sweeps.{IsSwept, PrimaryChanges, SecondaryChanges}
 use Rattle.step_values.specs.Centres.{TakesCentre}
-use Rattle.step_world.specs.Counts.{CountsCells}
+use Rattle.spacetree.specs.Counts.{CountsCells}
 use Rattle.step_world.specs.Failing.{FailsInTree}
 use Rattle.swept_slots.specs.Copies.{copies}
 use Rattle.step_sweeps.specs.declared.tally.Tally.{Tally}

@@ -11,57 +11,27 @@ use Rattle.peano_keys.specs.Cell.{child_of, root, key_cmp}
 use Rattle.peano_keys.specs.Grid.{Spacetree, IsGrid}
 use Rattle.peano_keys.specs.Next.{Splits, Merges}
 use Rattle.hanging_nodes.proofs.TwoGrids.{refined_there}
-use Rattle.spacetree.specs.Counts.{cells_of}
+use Rattle.spacetree.specs.Counts.{CountsCells, EachOnce, cells_of}
 use Rattle.spacetree.specs.Digits.{IsKept, digits_at}
 use Rattle.spacetree.specs.Leaves.{is_among, IsCellOf}
 use Rattle.spacetree.proofs.CellCounts.{len_by_kept}
 use Rattle.spacetree.proofs.CellMaps.{cells_total, exact_cells}
 use Rattle.spacetree.proofs.CellSets.{same_key, len_by_insert}
 use Rattle.spacetree.proofs.Leaves.{leaf_there}
-use Rattle.step_world.specs.Counts.{EachOnce, CountsCells, CountsAtMost}
-use Rattle.step_world.proofs.Counts.{with_all, has_all, false_by, many}
+use Rattle.step_world.specs.Counts.{CountsAtMost}
+use Rattle.spacetree.proofs.CountedSets.{as_many, in_list, listed_once, no_more, with_all}
 use Rattle.spacetree.proofs.Told.{true_told}
 use Rattle.spacetree.proofs.AllCells.{upto, cells_under, listed_under}
 
--- a cell that is listed once more
-again : (k q : CellKey) (ks : List CellKey) → is_among ks k ≡ true → is_among ks q ≡ (eq_by_cmp key_cmp q k || is_among ks q)
-again k q ks there = by (eq_by_cmp key_cmp q k) refl where
-  by : (b : Bool) → eq_by_cmp key_cmp q k ≡ b → is_among ks q ≡ (b || is_among ks q)
-  by true e = ap (is_among ks) (same_key q k e) ∙ there
-  by false e = refl
-
--- the cells of a list, each once
-once_of : (ks : List CellKey) → (rs : List CellKey) × EachOnce rs × ((q : CellKey) → is_among rs q ≡ is_among ks q)
-once_of [] = ([], tt, λ q. refl)
-once_of (k ∷ ks) =
-    let rest = once_of ks in
-    elim (true_told (is_among ks k)) [
-      | inl there ↦ (rest.0, rest.1, λ q. rest.2 q ∙ again k q ks there)
-      | inr apart ↦ (k ∷ rest.0, (rest.2 k ∙ false_by (is_among ks k) apart, rest.1), λ q. ap (λ b. eq_by_cmp key_cmp q k || b) (rest.2 q))
-    ]
-
--- the set of a list's cells
-in_list : (cs : List CellKey) (q : CellKey) → set.contains (with_all set.empty cs) q ≡ is_among cs q
-in_list cs q = has_all set.empty cs q ∙ ap (λ b. b || is_among cs q) (set.contains-empty key_cmp q)
-
--- has no more cells than the list,
-no_more : (cs : List CellKey) → set.len (with_all set.empty cs) ≤ length cs
-no_more [] = omega (arith, set.len-empty key_cmp)
-no_more (c ∷ cs) = omega (arith, len_by_insert (with_all set.empty cs) c, no_more cs)
-
--- and as many where none stands twice
-as_many : (cs : List CellKey) → EachOnce cs → set.len (with_all set.empty cs) ≡ length cs
-as_many cs once = many set.empty cs once (λ c h i. false≢true (sym (set.contains-empty key_cmp c) ∙ i)) ∙ omega (arith, set.len-empty key_cmp)
-
 -- the refined cells of a grid as a list
 abbrev refined_cells : Spacetree → List CellKey
-refined_cells g = (once_of (set.items g.refined)).0
+refined_cells g = (listed_once g.refined).0
 
 refined_listed : (g : Spacetree) (q : CellKey) → is_among (refined_cells g) q ≡ set.contains g.refined q
-refined_listed g q = (once_of (set.items g.refined)).2 q ∙ sym (set.contains-items g.refined q)
+refined_listed g q = (listed_once g.refined).2 q
 
 length_refined : (g : Spacetree) → length (refined_cells g) ≡ set.len g.refined
-length_refined g = sym (as_many (refined_cells g) (once_of (set.items g.refined)).1) ∙ ap set.len (set.same_set cells_total exact_cells _ _ (λ q. in_list (refined_cells g) q ∙ refined_listed g q))
+length_refined g = (listed_once g.refined).3
 
 -- and all its cells
 abbrev all_cells : Spacetree → List CellKey

@@ -16,44 +16,13 @@ use Rattle.spacetree.proofs.CellMaps.{cells_total, exact_cells}
 use Rattle.spacetree.proofs.CellSets.{itself}
 use Rattle.spacetree.proofs.Leaves.{leaf_there}
 use Rattle.curve_cuts.specs.Cuts.{Cuts, Owns, IsCutGrid}
-use Rattle.step_world.specs.Counts.{EachOnce, CountsCells, total, LeavesAddUp, SplitsAddUp, MergesAddUp, NextSize, SizeDecides}
+use Rattle.step_world.specs.Counts.{total, LeavesAddUp, SplitsAddUp, MergesAddUp, NextSize, SizeDecides}
 use Rattle.curve_cuts.proofs.Cuts.{owner_exists, owner_is_one}
 use Rattle.step_phases.proofs.Grids.{level_in}
+use Rattle.spacetree.specs.Counts.{CountsCells, EachOnce}
 use Rattle.spacetree.proofs.AllCells.{among_first, among_second}
+use Rattle.spacetree.proofs.CountedSets.{false_by, has_all, itself_first, many, with_all}
 use Rattle.spacetree.proofs.Exists.{merges_told, next_grid_exists}
-
--- a set with the cells of a list
-abbrev pub with_all : Cells → List CellKey → Cells
-with_all s [] = s
-with_all s (c ∷ cs) = set.insert (with_all s cs) c
-
-or_swap : (a b c : Bool) → (a || (b || c)) ≡ (b || (a || c))
-or_swap true true c = refl
-or_swap true false c = refl
-or_swap false b c = refl
-
-or_false : (a : Bool) → a ≡ (a || false)
-or_false true = refl
-or_false false = refl
-
-pub has_all : (s : Cells) (cs : List CellKey) (q : CellKey) → set.contains (with_all s cs) q ≡ (set.contains s q || is_among cs q)
-has_all s [] q = or_false (set.contains s q)
-has_all s (c ∷ cs) q = set.contains-insert cells_total (with_all s cs) c q ∙ ap (λ b. eq_by_cmp key_cmp q c || b) (has_all s cs q) ∙ or_swap (eq_by_cmp key_cmp q c) (set.contains s q) (is_among cs q)
-
-pub false_by : (b : Bool) → (b ≡ true → ⊥) → b ≡ false
-false_by true h = absurd (h refl)
-false_by false h = refl
-
-itself_first : (c : CellKey) (cs : List CellKey) → is_among (c ∷ cs) c ≡ true
-itself_first c cs = or_left (eq_by_cmp key_cmp c c) (is_among cs c) (itself c)
-
--- as many more as the list has, where none of them was there
-pub many : (s : Cells) (cs : List CellKey) → EachOnce cs → ((c : CellKey) → is_among cs c ≡ true → set.contains s c ≡ true → ⊥) → set.len (with_all s cs) ≡ set.len s + length cs
-many s [] once apart = omega arith
-many s (c ∷ cs) once apart =
-    let fresh : set.contains (with_all s cs) c ≡ false = has_all s cs c ∙ ap (λ b. set.contains s c || b) once.0 ∙ sym (or_false (set.contains s c)) ∙ false_by (set.contains s c) (λ h. apart c (itself_first c cs) h) in
-    let rest = many s cs once.1 (λ q h i. apart q (or_right (eq_by_cmp key_cmp q c) (is_among cs q) h) i) in
-    set.len-insert cells_total (with_all s cs) c ∙ ap (λ b. cond b (set.len (with_all s cs)) (set.len (with_all s cs) + 1)) fresh ∙ omega (arith, rest)
 
 pub next_size : NextSize
 next_size g new marks splits merges grid next s m =

@@ -1,28 +1,16 @@
 -- How many leaves there are and how many cells split and merge, tree by tree and together, and the size of the next grid.
-use Rattle.std.specs.Prelude.{◌≡◌, ◌↔◌, ℕ, zero, suc, ◌+◌, ◌*◌, ◌^◌, ◌<◌, ◌≤◌, true, false, List, [], ◌∷◌, length, IsSome}
+use Rattle.std.specs.Prelude.{◌≡◌, ℕ, zero, suc, ◌+◌, ◌*◌, ◌^◌, ◌<◌, ◌≤◌, true, List, length, IsSome}
 use Rattle.peano_keys.specs.declared.cell.CellKey.{CellKey}
 use Rattle.peano_keys.specs.declared.side.Mark.{Mark}
 use Rattle.peano_keys.specs.Dim.{axes}
 use Rattle.peano_keys.specs.Grid.{Spacetree, IsGrid}
 use Rattle.peano_keys.specs.Next.{Splits, Merges, IsNextGrid}
-use Rattle.spacetree.specs.Counts.{cells_of}
+use Rattle.spacetree.specs.Counts.{CountsCells, EachOnce, cells_of}
 use Rattle.spacetree.specs.Leaves.{is_among, IsCellOf}
 use Rattle.peano_keys.specs.Field.{States}
 use Rattle.solver_api.specs.Step.{UpdateRule, MarkRule, IsLeafOf, marks_of, new_state}
 use Rattle.spacetree.specs.Evaluation.{Crowds}
 use Rattle.curve_cuts.specs.Cuts.{Cuts, Owns, IsCutGrid}
-
--- no cell stands twice
-abbrev pub EachOnce : List CellKey → Type 0
-EachOnce [] = Unit {0}
-EachOnce (c ∷ cs) = (is_among cs c ≡ false) × EachOnce cs
-
--- of so many cells something is true
-pub record CountsCells (P : CellKey → Type 0) (n : ℕ) : Type 0 where
-  pub cells : List CellKey
-  pub members : (c : CellKey) → (is_among cells c ≡ true) ↔ P c
-  pub once : EachOnce cells
-  pub count : length cells ≡ n
 
 -- the sum of the first numbers
 abbrev pub total : ℕ → (ℕ → ℕ) → ℕ

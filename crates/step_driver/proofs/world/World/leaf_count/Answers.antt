@@ -2,7 +2,8 @@ use Rattle.std.proofs.Common.{sym, ap, ◌∙◌}
 use Rattle.curve_cuts.specs.Keys.{cuts_of}
 use Rattle.step_world.proofs.Worlds.{deep_grid}
 use Rattle.step_driver.specs.Worlds.{Seen}
-use Rattle.step_driver.proofs.LeafCounts.{rows_are_leaves, leaves_told}
+use Rattle.spacetree.proofs.LeafCounts.{rows_are_leaves}
+use Rattle.step_driver.proofs.LeafCounts.{leaves_told}
 use Rattle.step_driver.proofs.world.World.leaf_count.Goals as goal
 
 pub returns-clause-leaves : goal.returns-clause-leaves

@@ -1,5 +1,5 @@
 -- The root and the children of some cells as a set, and how many these are.
-use Rattle.std.proofs.Common.{◌≡◌, ◌⊎◌, inl, inr, ⊎_elim, ℕ, zero, suc, ◌+◌, ◌*◌, ◌^◌, ◌<◌, ◌≤◌, ◌||◌, true, cond, refl, sym, ap, ◌∙◌, arith, List, [], ◌∷◌, length}
+use Rattle.std.proofs.Common.{◌≡◌, ◌⊎◌, inl, inr, ⊎_elim, ℕ, zero, suc, ◌+◌, ◌*◌, ◌^◌, ◌<◌, ◌≤◌, true, cond, refl, sym, ap, ◌∙◌, arith, List, [], ◌∷◌, length}
 use Rattle.std.specs.FinSet as set
 use Rattle.std.specs.Ordering.{eq_by_cmp}
 use Rattle.std.proofs.lemmas.Bool.{false≢true, cases_eq, or_left, or_right, or_cases}
@@ -14,7 +14,7 @@ use Rattle.spacetree.specs.Leaves.{is_among}
 use Rattle.spacetree.proofs.CellMaps.{cells_total}
 use Rattle.spacetree.proofs.CellSets.{same_key, itself, kept_by_insert, has_inserted, inserted_cases}
 use Rattle.spacetree.proofs.Children.{parent_of_child, third_digit}
-use Rattle.step_world.proofs.Counts.{with_all, has_all, false_by}
+use Rattle.spacetree.proofs.CountedSets.{false_by, in_list, with_all}
 use Rattle.spacetree.proofs.Told.{true_told}
 
 -- a cell that is new to a set makes it one larger
@@ -24,10 +24,6 @@ one_larger s c new = set.len-insert cells_total s c ∙ ap (λ b. cond b (set.le
 -- and one that it has does not
 no_larger : (s : Cells) (c : CellKey) → set.contains s c ≡ true → set.len (set.insert s c) ≡ set.len s
 no_larger s c there = set.len-insert cells_total s c ∙ ap (λ b. cond b (set.len s) (set.len s + 1)) there
-
--- the set of a list's cells
-pub in_list : (cs : List CellKey) (q : CellKey) → set.contains (with_all set.empty cs) q ≡ is_among cs q
-in_list cs q = has_all set.empty cs q ∙ ap (λ b. b || is_among cs q) (set.contains-empty key_cmp q)
 
 module _ (dim : Dim) where
   abbrev pub fan : ℕ

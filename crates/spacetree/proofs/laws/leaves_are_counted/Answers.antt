@@ -1,0 +1,5 @@
+use Rattle.spacetree.proofs.LeafCounts.{leaves_are_counted}
+use Rattle.spacetree.proofs.laws.leaves_are_counted.Goals as goal
+
+pub returns : goal.returns
+returns c = leaves_are_counted

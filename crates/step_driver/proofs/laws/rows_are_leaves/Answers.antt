@@ -1,5 +1,0 @@
-use Rattle.step_driver.proofs.LeafCounts.{rows_are_leaves}
-use Rattle.step_driver.proofs.laws.rows_are_leaves.Goals as goal
-
-pub returns : goal.returns
-returns c = rows_are_leaves
