@@ -1,21 +1,20 @@
 -- A step on a grid that stays, the first leaf that fails, and steps after one another.
-use Rattle.std.proofs.Common.{zero, suc, ◌+◌, ◌<◌, length, take, get_or, arith, add-one, ◌≡◌, ℕ, List, [], ◌∷◌, true, cond, refl, ap, sym, ◌∙◌, subst, inl, inr, Option, None, IsSome, IsNone, Result, Ok, Err, IsErrAnd, IfErr}
+use Rattle.std.proofs.Common.{zero, suc, ◌+◌, ◌<◌, length, take, get_or, arith, add-one, ◌≡◌, ℕ, List, [], ◌∷◌, Bool, true, false, cond, refl, ap, sym, ◌∙◌, subst, inl, inr, Option, None, IsSome, IsNone, Result, Ok, Err, IsErrAnd, IfErr}
 use Rattle.std.specs.FinMap as map
+use Rattle.std.specs.FinSet as set
 use Rattle.std.specs.List.{AllByRecursion}
 use Rattle.std.specs.List.Sorted.{IsStrictlySortedBy}
 use Rattle.std.specs.Cmp.{tied_itself}
 use Rattle.std.specs.Ordering.{eq_by_cmp}
 use Rattle.std.specs.declared.cmp.Ordering.{Ordering}
 use Rattle.std.specs.declared.cmp.Ordering.TheVariants.{Less, Equal}
-use Rattle.std.proofs.lemmas.Bool.{or_cases, or_left, or_right}
-use Rattle.peano_keys.specs.declared.dim.Dim.{Dim}
-use Rattle.peano_keys.specs.declared.dim.Dim.TheVariants.{Two, Three}
+use Rattle.std.proofs.lemmas.Bool.{false≢true, or_cases, or_left, or_right}
 use Rattle.peano_keys.specs.declared.cell.CellKey.{CellKey}
 use Rattle.peano_keys.specs.declared.state.State.{State}
 use Rattle.peano_keys.specs.declared.side.Mark.{Mark}
 use Rattle.peano_keys.specs.declared.side.Mark.TheVariants.{Keep, Refine, Coarsen}
-use Rattle.peano_keys.specs.Cell.{IsDigits, triple, child_of, parent_of, centre_child, key_cmp}
-use Rattle.peano_keys.specs.Grid.{Spacetree, is_refined}
+use Rattle.peano_keys.specs.Cell.{parent_of, centre_child, centre_digits, key_cmp}
+use Rattle.peano_keys.specs.Grid.{Cells, IsGrid, Spacetree, is_refined}
 use Rattle.peano_keys.specs.Field.{States}
 use Rattle.peano_keys.specs.Next.{IsNextGrid, Merges}
 use Rattle.solver_api.specs.Step.{UpdateRule, MarkRule, IsLeafOf, IsStep, Overflows, marks_of, new_state, source_of}
@@ -24,14 +23,12 @@ use Rattle.spacetree.specs.declared.fault.EvalFault.TheVariants.{Overflow, Crowd
 use Rattle.spacetree.specs.Leaves.{is_among, ListsLeaves}
 use Rattle.spacetree.specs.Fields.{IsFieldOn}
 use Rattle.spacetree.specs.Evaluation.{Evaluates, OverflowsIn, CrowdsIn, Crowds, EndsIn, IsServedStep, StepFails}
-use Rattle.spacetree.specs.Marked.{HasNewStates, NextFails}
-use Rattle.spacetree.proofs.CellMaps.{cells_total}
+use Rattle.spacetree.specs.Marked.{AreMarked, HasMarked, HasNewStates, NextFails}
+use Rattle.spacetree.proofs.CellMaps.{cells_total, exact_cells}
 use Rattle.spacetree.proofs.CellSets.{same_key, among_at}
+use Rattle.spacetree.proofs.Children.{child_cell}
 use Rattle.spacetree.proofs.Givens.{away}
-
-low_digits : (dim : Dim) → IsDigits dim (triple 0 0 0)
-low_digits Two = record { shape = refl; first = omega arith; second = omega arith; third = omega arith }
-low_digits Three = record { shape = refl; first = omega arith; second = omega arith; third = omega arith }
+use Rattle.spacetree.proofs.Values.{centre_is_digits}
 
 keep_refines : (m : Mark) → m ≡ Keep → m ≡ Refine → ⊥
 keep_refines m h g = cc
@@ -39,13 +36,22 @@ keep_refines m h g = cc
 keep_coarsens : (m : Mark) → m ≡ Keep → m ≡ Coarsen → ⊥
 keep_coarsens m h g = cc
 
--- where all leaves are kept the grid stays
-pub same_grid : (t : Spacetree) (marks : CellKey → Mark) → ((c : CellKey) → marks c ≡ Keep) → IsNextGrid t marks t
-same_grid t marks keep = record {
+-- no leaf has a mark
+abbrev pub NoneHas : Spacetree → (CellKey → Mark) → Mark → Type 0
+NoneHas t marks m = (c : CellKey) → IsLeafOf t c → marks c ≡ m → ⊥
+
+-- where no leaf is to be refined or coarsened the grid stays
+same_grid : (t : Spacetree) (marks : CellKey → Mark) → IsGrid 12 t → NoneHas t marks Refine → NoneHas t marks Coarsen → IsNextGrid t marks t
+same_grid t marks grid whole fine = record {
   dim = refl;
   refined = λ c. (
-    λ h. inr (h, λ (m : Merges t marks c). keep_coarsens _ (keep (child_of c (triple 0 0 0))) (m.marked (triple 0 0 0) (low_digits t.dim))),
-    λ s. elim s [ inl split ↦ absurd (keep_refines _ (keep c) split.marked) | inr stays ↦ stays.0 ],
+    λ h. inr (
+      h,
+      λ (m : Merges t marks c).
+          let digits = centre_is_digits t.dim in
+          fine (centre_child t.dim c) (record { cell = child_cell t.dim c (centre_digits t.dim) (grid.cells c h) (grid.levels c h) digits; leaf = m.leaves (centre_digits t.dim) digits }) (m.marked (centre_digits t.dim) digits),
+    ),
+    λ s. elim s [ inl split ↦ absurd (whole c (record { cell = split.cell; leaf = split.leaf }) split.marked) | inr stays ↦ stays.0 ],
   );
 }
 
@@ -56,14 +62,37 @@ own_source t c leaf = ap (λ b. cond b c (cond (is_refined t c) (centre_child t.
 pub updates_made : (updated : UpdateRule) (parts : ℕ) (t : Spacetree) (f states : States) → IsFieldOn parts t states → HasNewStates updated t f states → (c : CellKey) → IsLeafOf t c → IsSome (new_state updated t f c)
 updates_made updated parts t f states field new c leaf = subst (λ (o : Option State). IsSome o) (new c leaf) ((field.leaves c).1 leaf)
 
--- where all leaves are kept their new states are the next field
-pub step_on_same_grid : (updated : UpdateRule) (marked : MarkRule) (parts : ℕ) (t : Spacetree) (f next : States) → IsFieldOn parts t next → HasNewStates updated t f next → ((c : CellKey) → marks_of marked t f c ≡ Keep) → IsStep updated marked t f t next
-step_on_same_grid updated marked parts t f next field new keep = record {
+-- and the new states of the leaves are the next field
+step_on_same_grid : (updated : UpdateRule) (marked : MarkRule) (parts : ℕ) (t : Spacetree) (f next : States) → IsGrid 12 t → IsFieldOn parts t next → HasNewStates updated t f next → NoneHas t (marks_of marked t f) Refine → NoneHas t (marks_of marked t f) Coarsen → IsStep updated marked t f t next
+step_on_same_grid updated marked parts t f next grid field new whole fine = record {
   updates = updates_made updated parts t f next field new;
-  grid = same_grid t (marks_of marked t f) keep;
+  grid = same_grid t (marks_of marked t f) grid whole fine;
   leaves = λ c leaf. new c leaf ∙ ap (new_state updated t f) (sym (own_source t c leaf));
   others = λ c apart. away (map.get next c) (λ e. apart ((field.leaves c).0 e));
 }
+
+-- a mark that is in an empty set is on no leaf
+none_has : (t : Spacetree) (marks : CellKey → Mark) (m : Mark) (s : Cells) → HasMarked t marks m s → s ≡ set.empty → NoneHas t marks m
+none_has t marks m s has e c leaf is = false≢true (sym (set.contains-empty key_cmp c) ∙ ap (λ r. set.contains r c) (sym e) ∙ (has c).1 (leaf, is))
+
+-- so a step goes where both sets of marked leaves are empty
+pub step_unmarked : (updated : UpdateRule) (marked : MarkRule) (parts : ℕ) (t : Spacetree) (f next : States) (refine coarsen : Cells) → IsGrid 12 t → IsFieldOn parts t next → HasNewStates updated t f next → AreMarked t (marks_of marked t f) refine coarsen → (refine ≡ set.empty) × (coarsen ≡ set.empty) → IsStep updated marked t f t next
+step_unmarked updated marked parts t f next refine coarsen grid field new are none = step_on_same_grid updated marked parts t f next grid field new
+    (none_has t (marks_of marked t f) Refine refine are.refine none.0) (none_has t (marks_of marked t f) Coarsen coarsen are.coarsen none.1)
+
+not_in : (b : Bool) → (b ≡ true → ⊥) → b ≡ false
+not_in true h = absurd (h refl)
+not_in false h = refl
+
+no_mark : (t : Spacetree) (marks : CellKey → Mark) (m : Mark) (s : Cells) → HasMarked t marks m s → ((c : CellKey) → marks c ≡ m → ⊥) → s ≡ set.empty
+no_mark t marks m s has none = set.same_set cells_total exact_cells s set.empty (λ c. not_in (set.contains s c) (λ h. none c ((has c).0 h).1) ∙ sym (set.contains-empty key_cmp c))
+
+-- and they are where each leaf is kept
+pub none_marked : (t : Spacetree) (marks : CellKey → Mark) (refine coarsen : Cells) → AreMarked t marks refine coarsen → ((c : CellKey) → marks c ≡ Keep) → (refine ≡ set.empty) × (coarsen ≡ set.empty)
+none_marked t marks refine coarsen are keep = (
+  no_mark t marks Refine refine are.refine (λ c e. keep_refines (marks c) (keep c) e),
+  no_mark t marks Coarsen coarsen are.coarsen (λ c e. keep_coarsens (marks c) (keep c) e),
+)
 
 not_before_itself : (c : CellKey) → key_cmp c c ≡ Less → ⊥
 not_before_itself c h = let e : Less ≡ Equal = sym h ∙ tied_itself cells_total c in less_apart _ refl e where

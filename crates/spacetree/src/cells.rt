@@ -1,5 +1,5 @@
 //! Sets of cells in key order.
-ghost use Rattle.std.specs.Prelude.{◌≡◌, ◌+◌, ◌≤◌, IfOk, OnOk, OnErr};
+ghost use Rattle.std.specs.Prelude.{◌≡◌, ◌↔◌, ◌+◌, ◌≤◌, IfOk, IsTrue, OnOk, OnErr};
 ghost use Rattle.std.specs.FinSet as set;
 ghost use Rattle.std.specs.List.Sorted.{IsStrictlySortedBy};
 ghost use Rattle.peano_keys.specs.Cell.{key_cmp};
@@ -55,6 +55,12 @@ impl CellSet {
         ensures { result ≡ set.len self.now }
     {
         self.keys.len() as u64
+    }
+
+    pub(crate) fn is_empty(&self) -> bool
+        ensures { IsTrue result ↔ (self.now ≡ set.empty) }
+    {
+        self.len() == 0
     }
 
     pub(crate) fn insert(&mut self, key: CellKey) -> Result<(), AllocError>

@@ -17,8 +17,12 @@ use peano_keys::CellKey;
 use solver_api::Solver;
 use std::alloc::{AllocError, Global};
 
-// The grid and the field after one step.
-fn advance<S: Solver>(
+/// The grid and the field after one step of a solver; a refusal names the step by the number given. The marks and the new
+/// states come from the field: leaves that are marked to be refined split, and a refined cell whose children are all leaves
+/// that are marked to be coarsened merges. It is refused at the least leaf that overflows, or, where none does, because the
+/// next grid would have more than 200,000 cells. Where no leaf is to be refined or coarsened the grid is handed back as it
+/// is. The solver's deepest level is at most 12.
+pub fn advance<S: Solver>(
     alloc: Global,
     grid: Grid,
     field: &Field,
@@ -31,13 +35,18 @@ fn advance<S: Solver>(
     requires field { IsFieldOn (S.parts_of solver.now) grid field.now }
     ensures ok { IfOk result (λ after. IsServedStep (S.updated solver.now) (S.marked solver.now) grid field.now after.0 after.1) }
     ensures field { IfOk result (λ after. IsFieldOn (S.parts_of solver.now) after.0 after.1) }
+    ensures served { IfOk result (λ after. IsGrid 12 after.0) }
+
+    // The grid goes no deeper than it was and the solver refines.
     ensures grid { IfOk result (λ after. (depth : ℕ) → S.deepest_of solver.now ≤ depth → IsGrid depth grid → IsGrid depth after.0) }
+
+    // Without a criterion it stays.
     ensures stays { S.adapting solver.now ≡ false → IfOk result (λ after. after.0 ≡ grid) }
     ensures err { IfErr result (StepFails (S.updated solver.now) (S.marked solver.now) grid field.now step) }
 {
     let leaves = grid.leaves(alloc)?;
     let update = update_leaves(alloc, &grid, field, solver, leaves.as_slice(), step)?;
-    if !solver.adapts() {
+    if update.keeps_all() {
         return Ok((grid, update.states));
     }
     let next = next_grid(alloc, &grid, &update, step)?;

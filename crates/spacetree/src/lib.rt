@@ -25,7 +25,7 @@ mod step_tests;
 mod tests;
 mod update;
 
-pub use evaluation::evaluate;
+pub use evaluation::{advance, evaluate};
 pub use fault::{BuildFault, EvalFault};
 pub use field::Field;
 pub use grid::Grid;

@@ -1,5 +1,5 @@
 //! What a step makes of the leaves of a grid: their new states and their marks.
-ghost use Rattle.std.specs.Prelude.{◌≡◌, ◌≤◌, ◌^◌, IfOk, IfErr, IfSome, OnOk, length};
+ghost use Rattle.std.specs.Prelude.{◌≡◌, ◌↔◌, ◌≤◌, ◌^◌, IfOk, IfErr, IfSome, IsTrue, OnOk, length};
 ghost use Rattle.std.specs.FinMap as fin;
 ghost use Rattle.std.specs.FinSet as set;
 ghost use Rattle.peano_keys.specs.declared.side.Mark.TheVariants.{Refine, Coarsen};
@@ -74,6 +74,13 @@ impl Update {
             refine: CellSet::new(alloc),
             coarsen: CellSet::new(alloc),
         }
+    }
+
+    // Whether no leaf is to be refined or coarsened.
+    pub(crate) fn keeps_all(&self) -> bool
+        ensures { IsTrue result ↔ ((self.now.refine ≡ set.empty) × (self.now.coarsen ≡ set.empty)) }
+    {
+        self.refine.is_empty() && self.coarsen.is_empty()
     }
 
     // Adds a leaf with its new state and its mark.

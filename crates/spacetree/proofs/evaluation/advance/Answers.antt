@@ -1,19 +1,18 @@
 use Rattle.std.proofs.Common.{arith, ◌∙◌, sym, subst}
+use Rattle.std.proofs.lemmas.Bool.{false≢true}
 use Rattle.peano_keys.specs.Field.{States, state_at, sides_of}
 use Rattle.solver_api.specs.Step.{marks_of}
 use Rattle.spacetree.specs.Evaluation.{StepFails}
 use Rattle.spacetree.proofs.NextGrids.{next_is_grid, field_on_next, step_to_next}
-use Rattle.spacetree.proofs.Steps.{err_and, next_fails, step_on_same_grid, updates_made}
+use Rattle.spacetree.proofs.Steps.{err_and, next_fails, none_marked, step_unmarked, updates_made}
 use Rattle.spacetree.proofs.evaluation.advance.Goals as goal
 
-pub returns-then-not-adapts-clause-ok : goal.returns-then-not-adapts-clause-ok
-returns-then-not-adapts-clause-ok g c =
-    let f : States = c.args.field.now in
+pub returns-then-keeps_all-clause-ok : goal.returns-then-keeps_all-clause-ok
+returns-then-keeps_all-clause-ok g c =
     let update = c.in_ok-update.ensures in
-    let fixed = sym c.adapts.ensures ∙ c.if-not-adapts.true in
     record {
-      step = step_on_same_grid (g.S.Solver.updated c.args.solver.now) (g.S.Solver.marked c.args.solver.now) (g.S.Solver.parts_of c.args.solver.now) c.args.grid f c.in_ok-update.update.states update.field update.states
-          (λ q. (g.met.S.Solver g.world.𝓛 g.world.𝓜 g.world.𝓡 ((λ s x. x), (λ x. x), (λ x. x), λ x. x)).keeps_all c.args.solver.now (state_at f q) (sides_of c.args.grid f q) q.level fixed);
+      step = step_unmarked (g.S.Solver.updated c.args.solver.now) (g.S.Solver.marked c.args.solver.now) (g.S.Solver.parts_of c.args.solver.now) c.args.grid c.args.field.now c.in_ok-update.update.states c.in_ok-update.update.refine c.in_ok-update.update.coarsen
+          c.requires.grid update.field update.states update.marks (c.keeps_all.ensures.0 c.if-keeps_all.true);
       room = c.requires.room;
     }
 
@@ -60,3 +59,14 @@ returns-clause-grid g c depth h grid =
     let marks = marks_of (g.S.Solver.marked c.args.solver.now) c.args.grid f in
     next_is_grid depth c.args.grid c.in_ok-next.next marks grid (c.in_ok-next.ensures.ok marks c.in_ok-update.ensures.marks)
     (λ q e. omega (arith, (g.met.S.Solver g.world.𝓛 g.world.𝓜 g.world.𝓡 ((λ s x. x), (λ x. x), (λ x. x), λ x. x)).refines_above c.args.solver.now (state_at f q) (sides_of c.args.grid f q) q.level e, h))
+
+pub returns-clause-served : goal.returns-clause-served
+returns-clause-served g c = returns-clause-grid g c 12 c.requires.deepest c.requires.grid
+
+-- without a criterion no leaf is marked
+pub returns-clause-stays : goal.returns-clause-stays
+returns-clause-stays g c fixed =
+    let f : States = c.args.field.now in
+    let kept = none_marked c.args.grid (marks_of (g.S.Solver.marked c.args.solver.now) c.args.grid f) c.in_ok-update.update.refine c.in_ok-update.update.coarsen c.in_ok-update.ensures.marks
+    (λ q. (g.met.S.Solver g.world.𝓛 g.world.𝓜 g.world.𝓡 ((λ s x. x), (λ x. x), (λ x. x), λ x. x)).keeps_all c.args.solver.now (state_at f q) (sides_of c.args.grid f q) q.level fixed) in
+    absurd (false≢true (sym c.if-keeps_all.false ∙ c.keeps_all.ensures.1 kept))
