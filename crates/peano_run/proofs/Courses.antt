@@ -20,6 +20,7 @@ use Rattle.peano_run.specs.declared.refused.Refused.{Refused}
 use Rattle.peano_run.specs.Report.{Moment, GoesOn, OfPlan, at_start, in_step, added_lines, most_lines, longest_input}
 use Rattle.peano_run.specs.Left.{EndsAtLast, IsLeft, LeavesWorld}
 use Rattle.peano_run.specs.Run.{EndsAtReport}
+use Rattle.peano_run.proofs.Blocks.{report_of}
 use Rattle.peano_run.proofs.Leads.{count_to}
 use Rattle.peano_run.specs.Course.{IsCourse, IsStopped, Shows, ShowFails, too_many, no_memory, with_text}
 
@@ -89,7 +90,7 @@ ends_at_report r bytes plan course size read h =
       count = count_to r.trees plan course.world.keys plan.steps m.grid m.field course.world.notes h.shown.noted;
       noted = h.shown.noted;
     } in
-    (record { size = size; plan = plan; read = read; holds = record { last = m; reached = h.reached; text_is = h.shown.stands.text } }, record { size = size; plan = plan; read = read; holds = last })
+    (record { size = size; plan = plan; read = read; holds = report_of r plan m course.text.items h.reached h.shown.stands.text }, record { size = size; plan = plan; read = read; holds = last })
 
 -- what is left of a plan's run is left of the file's
 pub left_of_file : (r : Request) (bytes : List ℕ) (plan : Plan) (a : Answer) (b : Bool) (world : Option (Seen AnySolver)) → length bytes ≤ longest_input → plan_of bytes ≡ Ok plan → IsLeft (LeavesWorld r plan a) b world → IsLeft (λ w. OfPlan bytes (λ p. LeavesWorld r p a w)) b world

@@ -29,12 +29,13 @@ use Rattle.grid_file.specs.Plan.{plan_of, printed}
 use Rattle.grid_file.specs.Valid.{IsPlan}
 use Rattle.grid_file.proofs.FileRange.{file_range}
 use Rattle.peano_run.specs.declared.answer.Answer.{Answer}
-use Rattle.peano_run.specs.declared.answer.Answer.TheVariants.{Done, Usage, ReadFault, TooLong, Malformed, Limit, Crowded, Overflow, WriteFault, NoMemory}
+use Rattle.peano_run.specs.declared.answer.Answer.TheVariants.{TooLong, Malformed, Limit, Crowded, Overflow, NoMemory}
 use Rattle.peano_run.specs.declared.answer.LimitKind.TheVariants.{Cells, Lines}
 use Rattle.peano_run.specs.declared.asked.Request.{Request}
 use Rattle.peano_run.specs.Asked.{IsTreeCount}
 use Rattle.peano_run.specs.Outcome.{EachFileHasAnOutcome, HasRefusal, HasReport}
-use Rattle.peano_run.specs.Report.{Moment, GoesOn, OfPlan, IsReportOf, IsRefused, IsAdded, IsAddedIf, IsTrafficText, HasManyLines, at_start, in_step, added_lines, fields_text, longest_input, most_lines, shows_traffic}
+use Rattle.peano_run.specs.Report.{Moment, GoesOn, IsReportOf, IsAdded, IsAddedIf, IsTrafficText, at_start, in_step, added_lines, fields_text, longest_input, most_lines, shows_traffic}
+use Rattle.peano_run.proofs.Blocks.{report_of}
 use Rattle.peano_run.proofs.Fates.{Fate, too_large, too_long, overflows, crowded}
 
 module _ (r : Request) (plan : Plan) where
@@ -133,7 +134,7 @@ module _ (r : Request) (plan : Plan) where
     -- a plan has a report or another fate
     pub ends : ((text : List ℕ) × IsReportOf r plan text) ⊎ HasFate
     ends = elim (comes plan.steps (omega arith)) [
-      | inl at ↦ inl (at.moment.text, record { last = at.moment; reached = at.on; text_is = refl })
+      | inl at ↦ inl (at.moment.text, report_of r plan at.moment at.moment.text at.on refl)
       | inr fate ↦ inr fate
     ]
 

@@ -23,6 +23,7 @@ use Rattle.step_driver.specs.Starts.{AreFirstKeys}
 use Rattle.step_driver.proofs.Rests.{one_traffic}
 use Rattle.peano_run.specs.declared.asked.Request.{Request}
 use Rattle.peano_run.specs.Report.{Moment, Starts, Follows, Reaches, GoesOn, IsReportOf, HasManyLines, at_start, in_step, OverflowsIn, CrowdedIn, IsAdded, IsAddedIf, IsTrafficText, most_lines, shows_traffic, fields_text, added_lines}
+use Rattle.peano_run.proofs.Blocks.{last_moment}
 use Rattle.peano_run.proofs.OneKeys.{one_keys}
 
 -- how a plan that has no report ends
@@ -225,7 +226,7 @@ module _ (r : Request) (plan : Plan) where
 
   -- and none where it has a report
   pub no_fate : (text : List ℕ) (a : Answer) → IsReportOf r plan text → Fate r plan a → ⊥
-  no_fate text a is (too_large p x) = not_large x plan.steps is.last is.reached.reached
-  no_fate text a is (too_long p x) = not_long x plan.steps is.last is.reached (within x)
-  no_fate text a is (overflows s l p x) = not_over s l x plan.steps is.last is.reached.reached (omega (arith, x.step_is, x.within))
-  no_fate text a is (crowded s n p x) = not_crowded s n x plan.steps is.last is.reached.reached (omega (arith, x.step_is, x.within))
+  no_fate text a is (too_large p x) = let last = last_moment r plan text is in not_large x plan.steps last.0 last.1.reached
+  no_fate text a is (too_long p x) = let last = last_moment r plan text is in not_long x plan.steps last.0 last.1 (within x)
+  no_fate text a is (overflows s l p x) = let last = last_moment r plan text is in not_over s l x plan.steps last.0 last.1.reached (omega (arith, x.step_is, x.within))
+  no_fate text a is (crowded s n p x) = let last = last_moment r plan text is in not_crowded s n x plan.steps last.0 last.1.reached (omega (arith, x.step_is, x.within))

@@ -1,5 +1,5 @@
 -- The first keys of a grid are one.
-use Rattle.std.proofs.Common.{◌≡◌, ℕ, suc, ◌<◌, true, List, [], ◌∷◌, refl, ap, ap₂, sym, subst, ◌∙◌, ⊎_elim, arith, inl, inr}
+use Rattle.std.proofs.Common.{◌≡◌, ℕ, ◌<◌, true, List, [], ◌∷◌, refl, ap, ap₂, sym, subst, ◌∙◌, ⊎_elim, arith, inl, inr}
 use Rattle.std.specs.Prelude.{slice_index, Contains}
 use Rattle.std.proofs.lemmas.Bool.{cases_eq}
 use Rattle.std.proofs.lemmas.Grind.{same_number_lists}
@@ -11,7 +11,7 @@ use Rattle.peano_keys.specs.Cell.{IsCell}
 use Rattle.peano_keys.specs.Grid.{Spacetree, is_leaf}
 use Rattle.peano_curve.specs.Order.{interval_start}
 use Rattle.curve_cuts.specs.Keys.{CutPoints, first_leaf}
-use Rattle.curve_cuts.specs.Leaves.{AreLeaves, RiseAlong}
+use Rattle.curve_cuts.specs.Leaves.{AreLeaves}
 use Rattle.step_driver.specs.Starts.{AreFirstKeys}
 use Rattle.step_driver.proofs.Places.{in_place, place_in}
 use Rattle.step_driver.proofs.Rising.{Rises, rises}

@@ -9,7 +9,8 @@ use Rattle.peano_run.specs.declared.answer.Answer.{Answer}
 use Rattle.peano_run.specs.declared.answer.Answer.TheVariants.{Done, Usage, ReadFault, TooLong, Malformed, Limit, Crowded, Overflow, WriteFault, NoMemory}
 use Rattle.peano_run.specs.declared.answer.LimitKind.TheVariants.{Cells, Lines}
 use Rattle.peano_run.specs.declared.asked.Request.{Request}
-use Rattle.peano_run.specs.Report.{IsReport, IsReportOf, IsRefused, longest_input}
+use Rattle.peano_run.specs.Report.{IsReport, IsReportOf, IsRefused, Moment, longest_input}
+use Rattle.peano_run.proofs.Blocks.{last_moment}
 use Rattle.peano_run.specs.Outcome.{OneReport, NoneIsBoth, OneRefusal}
 use Rattle.peano_run.proofs.Fates.{Fate, too_large, too_long, overflows, crowded, one_moment, one_fate, no_fate}
 
@@ -68,9 +69,10 @@ not_both q bytes text a r (planned plan x e fate) = no_fate q plan text a (subst
 pub one_report : OneReport
 one_report r bytes first second h g =
     let same : h.plan ≡ g.plan = one_plan bytes h.plan g.plan h.read g.read in
-    let report = subst (λ (p : Plan). IsReportOf r p first) same h.holds in
-    let last = one_moment r g.plan g.plan.steps report.last g.holds.last report.reached.reached g.holds.reached.reached in
-    report.text_is ∙ ap (λ m. m.text) last ∙ sym g.holds.text_is
+    let a = last_moment r g.plan first (subst (λ (p : Plan). IsReportOf r p first) same h.holds) in
+    let b = last_moment r g.plan second g.holds in
+    let last = one_moment r g.plan g.plan.steps a.0 b.0 a.1.reached b.1.reached in
+    a.2 ∙ ap (λ (m : Moment). m.text) last ∙ sym b.2
 
 pub none_is_both : NoneIsBoth
 none_is_both r bytes text a report refused = elim (verdict r bytes a refused) [ inl e ↦ e | inr v ↦ absurd (not_both r bytes text a report v) ]

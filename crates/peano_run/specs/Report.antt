@@ -1,5 +1,5 @@
 -- The course of a run, step by step, and what it comes to: the report of a file, or the cause of a refusal.
-use Rattle.std.specs.Prelude.{◌≡◌, ℕ, zero, suc, ◌+◌, ◌<◌, ◌≤◌, ◌&&◌, Bool, true, false, List, [], ◌++◌, length, if◌then◌else◌, Ok, Err}
+use Rattle.std.specs.Prelude.{◌≡◌, ℕ, zero, suc, ◌+◌, ◌<◌, ◌≤◌, ◌&&◌, Bool, true, false, List, [], ◌∷◌, ◌++◌, length, flat_map, slice_index_or, if◌then◌else◌, Ok, Err}
 use Rattle.peano_keys.specs.declared.cell.CellKey.{CellKey}
 use Rattle.peano_keys.specs.Grid.{Spacetree}
 use Rattle.peano_keys.specs.Field.{States}
@@ -8,7 +8,7 @@ use Rattle.volume_solver.specs.Any.{updated_by, marked_by, parts_in}
 use Rattle.spacetree.specs.Opening.{Opens, OpensField}
 use Rattle.spacetree.specs.Build.{IsTooLarge}
 use Rattle.spacetree.specs.Counts.{cells_of}
-use Rattle.spacetree.specs.Evaluation.{IsServedStep, Crowds}
+use Rattle.spacetree.specs.Evaluation.{Evaluates, IsServedStep, Crowds}
 use Rattle.spacetree.specs.Fields.{rows_of}
 use Rattle.grid_file.specs.declared.plan.Plan.{Plan}
 use Rattle.peano_run.specs.declared.answer.Answer.{Answer}
@@ -109,11 +109,46 @@ pub record GoesOn (r : Request) (plan : Plan) (n : ℕ) (m : Moment) : Type 0 wh
   pub reached : Reaches r plan n m
   pub room : m.lines ≤ most_lines
 
--- a text is the report of a plan: that of the moment after its last step
+-- a run of a plan opens: with the opening grid and the opening field, cut into trees of equal shares
+pub record OpensRun (r : Request) (plan : Plan) (keys : CutPoints) (g : Spacetree) (f : States) : Type 0 where
+  pub grid : Opens plan.shape g
+  pub room : cells_of g ≤ 200000
+  pub field : OpensField g plan.fills (parts_in plan.solver) f
+  pub cut : AreFirstKeys plan.shape.depth g r.trees keys
+
+-- what a step adds to a report: a text, and how many leaf lines it has
+pub record Block : Type 0 where
+  pub text : List ℕ
+  pub lines : ℕ
+
+-- the block of a step shows the grid and the field to which the evaluation leads in it
+pub record BlockOf (r : Request) (plan : Plan) (keys : CutPoints) (g : Spacetree) (f : States) (step : ℕ) (b : Block) : Type 0 where
+  pub grid : Spacetree
+  pub field : States
+  pub led : Evaluates (updated_by plan.solver) (marked_by plan.solver) g f step grid field
+  pub told : IsAdded r plan (cuts_of keys) step grid field b.text
+  pub counted : b.lines ≡ added_lines r plan step field
+
+-- the texts of blocks, one after another
+abbrev pub texts_in : List Block → List ℕ
+texts_in bs = flat_map (λ (b : Block). b.text) bs
+
+-- and the sum of their lines
+abbrev pub lines_in : List Block → ℕ
+lines_in [] = 0
+lines_in (b ∷ bs) = b.lines + lines_in bs
+
+-- a text is the report of a plan: the blocks of its steps from 0 to the last, in order, with no more lines together than there may be
 pub record IsReportOf (r : Request) (plan : Plan) (text : List ℕ) : Type 0 where
-  pub last : Moment
-  pub reached : GoesOn r plan plan.steps last
-  pub text_is : text ≡ last.text
+  pub keys : CutPoints
+  pub grid : Spacetree
+  pub field : States
+  pub opens : OpensRun r plan keys grid field
+  pub blocks : List Block
+  pub count : length blocks ≡ plan.steps + 1
+  pub each : (s : ℕ) (d : Block) → s ≤ plan.steps → BlockOf r plan keys grid field s (slice_index_or blocks s d)
+  pub text_is : text ≡ texts_in blocks
+  pub room : lines_in blocks ≤ most_lines
 
 -- a plan has too many lines: with those of the opening field, or with those of the field to which a step leads
 pub data HasManyLines (r : Request) (plan : Plan) : Type 0 where
