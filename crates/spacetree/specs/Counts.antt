@@ -1,10 +1,10 @@
 -- How many cells and leaves a grid has, by formula, and what counting is.
-use Rattle.std.specs.Prelude.{◌≡◌, ◌↔◌, ℕ, ◌+◌, ◌-◌, ◌*◌, ◌^◌, true, false, List, [], ◌∷◌, length}
+use Rattle.std.specs.Prelude.{◌≡◌, ◌↔◌, ℕ, ◌+◌, ◌-◌, ◌*◌, ◌^◌, ◌≤◌, true, false, List, [], ◌∷◌, length}
 use Rattle.std.specs.FinSet as set
 use Rattle.peano_keys.specs.declared.dim.Dim.{Dim}
 use Rattle.peano_keys.specs.declared.cell.CellKey.{CellKey}
 use Rattle.peano_keys.specs.Dim.{axes}
-use Rattle.peano_keys.specs.Grid.{Spacetree}
+use Rattle.peano_keys.specs.Grid.{Spacetree, IsGrid}
 use Rattle.spacetree.specs.Leaves.{is_among}
 
 -- the root, and the children of each of so many refined cells
@@ -14,6 +14,11 @@ cells_for dim refined = 1 + 3 ^ axes dim * refined
 -- the number of cells of a grid
 abbrev pub cells_of : Spacetree → ℕ
 cells_of t = cells_for t.dim (set.len t.refined)
+
+-- what a grid of the engine is: a grid of depth at most 12, with at most 200,000 cells
+pub record IsServedGrid (t : Spacetree) : Type 0 where
+  pub grid : IsGrid 12 t
+  pub room : cells_of t ≤ 200000
 
 -- the number of leaves of a grid: of its cells, those that are not refined
 abbrev pub leaves_of : Spacetree → ℕ

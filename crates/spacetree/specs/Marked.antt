@@ -1,5 +1,5 @@
 -- What a step makes of the leaves of a grid: their new states, the sets of those that have a mark, and what comes of these.
-use Rattle.std.specs.Prelude.{◌≡◌, ◌↔◌, ◌⊎◌, ℕ, true, List, Some}
+use Rattle.std.specs.Prelude.{◌≡◌, ◌↔◌, ◌⊎◌, ◌<◌, ℕ, true, List, Some}
 use Rattle.std.specs.FinMap as map
 use Rattle.std.specs.FinSet as set
 use Rattle.peano_keys.specs.declared.cell.CellKey.{CellKey}
@@ -27,6 +27,12 @@ HasMarked t marks m s = (c : CellKey) → (set.contains s c ≡ true) ↔ (IsLea
 pub record AreMarked (t : Spacetree) (marks : CellKey → Mark) (split merge : Cells) : Type 0 where
   pub refine : HasMarked t marks Refine split
   pub coarsen : HasMarked t marks Coarsen merge
+
+-- they are those of some marks by which only cells above level 12 are refined
+pub record AreServedMarks (t : Spacetree) (split merge : Cells) : Type 0 where
+  pub marks : CellKey → Mark
+  pub marked : AreMarked t marks split merge
+  pub above : (c : CellKey) → marks c ≡ Refine → c.level < 12
 
 -- a cell was added to a set where a fact holds, and where it does not the set stays
 abbrev pub IsAddedWhere : Type 0 → CellKey → Cells → Cells → Type 0

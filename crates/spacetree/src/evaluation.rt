@@ -1,7 +1,6 @@
 //! The plain evaluator: steps by coordinates over sorted sets and maps.
 ghost use Rattle.std.specs.Prelude.{◌≡◌, ◌≤◌, ◌^◌, ℕ, false, IfOk, IfErr, OnOk};
 ghost use Rattle.peano_keys.specs.Grid.{IsGrid};
-ghost use Rattle.spacetree.specs.Counts.{cells_of};
 ghost use Rattle.spacetree.specs.Leaves.{ListsLeaves};
 ghost use Rattle.spacetree.specs.Fields.{IsFieldOn};
 ghost use Rattle.spacetree.specs.Evaluation.{Evaluates, EndsIn, IsServedStep, NeverCrowds, NeverOverflows, StepFails};
@@ -30,8 +29,6 @@ pub fn advance<S: Solver>(
     step: u32,
 ) -> Result<(Grid, Field), EvalFault>
     requires deepest { S.deepest_of solver.now ≤ 12 }
-    requires grid { IsGrid 12 grid }
-    requires room { cells_of grid ≤ 200000 }
     requires field { IsFieldOn (S.parts_of solver.now) grid field.now }
     ensures ok { IfOk result (λ after. IsServedStep (S.updated solver.now) (S.marked solver.now) grid field.now after.0 after.1) }
     ensures field { IfOk result (λ after. IsFieldOn (S.parts_of solver.now) after.0 after.1) }
@@ -44,7 +41,7 @@ pub fn advance<S: Solver>(
     ensures stays { S.adapting solver.now ≡ false → IfOk result (λ after. after.0 ≡ grid) }
     ensures err { IfErr result (StepFails (S.updated solver.now) (S.marked solver.now) grid field.now step) }
 {
-    let leaves = grid.leaves(alloc)?;
+    let leaves = grid.found_leaves(alloc)?;
     let update = update_leaves(alloc, &grid, field, solver, leaves.as_slice(), step)?;
     if update.keeps_all() {
         return Ok((grid, update.states));
@@ -85,7 +82,6 @@ pub fn evaluate<S: Solver>(
     steps: u32,
 ) -> Result<(Grid, Field), EvalFault>
     requires deepest { S.deepest_of solver.now ≤ 12 }
-    requires grid { IsGrid 12 grid.now }
     requires field { IsFieldOn (S.parts_of solver.now) grid.now field.now }
     ensures ok { IfOk result (λ after. Evaluates (S.updated solver.now) (S.marked solver.now) grid.now field.now steps after.0 after.1) }
     ensures field { IfOk result (λ after. IsFieldOn (S.parts_of solver.now) after.0 after.1) }
@@ -102,7 +98,7 @@ pub fn evaluate<S: Solver>(
     ensures through { OnOk result (NeverOverflows (S.updated solver.now) (S.marked solver.now) grid.now field.now steps) }
     ensures room { OnOk result (NeverCrowds (S.updated solver.now) (S.marked solver.now) grid.now field.now steps) }
 {
-    let leaves = grid.leaves(alloc)?;
+    let leaves = grid.found_leaves(alloc)?;
     let mut states = copied(alloc, grid, field, leaves.as_slice(), solver.parts())?;
     let mut tree = grid.copied()?;
     for step in 0..steps {

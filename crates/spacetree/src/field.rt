@@ -3,7 +3,6 @@ ghost use Rattle.std.specs.Prelude.{◌≡◌, ◌≤◌, map, OnOk, OnErr, IfOk
 ghost use Rattle.std.specs.FinMap as fin;
 ghost use Rattle.std.specs.List.Sorted.{IsStrictlySortedBy};
 ghost use Rattle.peano_keys.specs.Cell.{key_cmp};
-ghost use Rattle.peano_keys.specs.Grid.{IsGrid};
 ghost use Rattle.spacetree.specs.Fields.{rows_of, row_of, IsFieldOn};
 ghost use Rattle.spacetree.specs.Opening.{OpensField, IsFill};
 
@@ -66,7 +65,6 @@ impl Field {
         fills: &[Fill],
         parts: u32,
     ) -> Result<Field, AllocError>
-        requires grid { IsGrid 12 grid.now }
         requires least { 1 ≤ parts }
         requires most { parts ≤ 4 }
         requires fills { All (IsFill parts) fills.now }

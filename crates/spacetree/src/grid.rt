@@ -3,7 +3,7 @@ ghost use Rattle.std.specs.Prelude.{◌≡◌, ◌<◌, ◌≤◌, true, IfOk, I
 ghost use Rattle.spacetree.specs.Digits.{HasLeavesOf, HasLeavesUnder, IsKept};
 ghost use Rattle.peano_keys.specs.Cell.{IsCell};
 ghost use Rattle.peano_keys.specs.Grid.{IsGrid, has_cell, is_refined};
-ghost use Rattle.spacetree.specs.Counts.{cells_for, cells_of, leaves_of};
+ghost use Rattle.spacetree.specs.Counts.{IsServedGrid, cells_of, leaves_of};
 ghost use Rattle.std.specs.FinSet as set;
 ghost use Rattle.solver_api.specs.Step.{IsLeafOf};
 ghost use Rattle.spacetree.specs.Leaves.{IsCellOf, ListsCells, ListsLeaves};
@@ -20,7 +20,7 @@ use peano_keys::{CellKey, Dim, child, is_cell, parent};
 use std::alloc::{AllocError, Global};
 use std::marker::Model;
 
-/// A grid: its dimension and its set of refined cells. It has at most 200,000 cells.
+/// A grid: its dimension and its set of refined cells. It is of depth at most 12 and has at most 200,000 cells.
 #[derive(Drop)]
 pub struct Grid {
     dim: Dim,
@@ -28,10 +28,8 @@ pub struct Grid {
 }
 
 impl Model for Grid {
-    ghost use Rattle.std.specs.Prelude.{◌≤◌};
-    ghost use Rattle.std.specs.FinSet as set;
     ghost use Rattle.peano_keys.specs.Grid.{Spacetree, coded_spacetree};
-    ghost use Rattle.spacetree.specs.Counts.{cells_for};
+    ghost use Rattle.spacetree.specs.Counts.{IsServedGrid};
 
     ghost Value = { Spacetree };
 
@@ -39,7 +37,7 @@ impl Model for Grid {
 
     ghost view = { λ g. record { dim = g.dim; refined = g.refined } };
 
-    ghost invariant = { λ g. cells_for g.dim (set.len g.refined) ≤ 200000 };
+    ghost invariant = { λ g. IsServedGrid (record { dim = g.dim; refined = g.refined }) };
 }
 
 impl Grid {
@@ -113,8 +111,15 @@ impl Grid {
 
     /// The leaves, in key order.
     pub fn leaves(&self, alloc: Global) -> Result<Vec<CellKey>, AllocError>
-        requires { IsGrid 12 self.now }
         ensures { IfOk result (λ cells. ListsLeaves self.now cells.items) }
+    {
+        self.found_leaves(alloc)
+    }
+
+    // The leaves, for those who need to know besides that each grid is one that the engine serves.
+    pub(crate) fn found_leaves(&self, alloc: Global) -> Result<Vec<CellKey>, AllocError>
+        ensures leaves { IfOk result (λ cells. ListsLeaves self.now cells.items) }
+        ensures served { OnOk result (IsServedGrid self.now) }
     {
         let mut found = CellSet::new(alloc);
         let root = CellKey {
@@ -131,7 +136,8 @@ impl Grid {
 
     // The refined cells, in key order.
     pub(crate) fn refined_cells(&self, alloc: Global) -> Result<Vec<CellKey>, AllocError>
-        ensures { IfOk result (λ cells. ListsCells self.now.refined cells.items) }
+        ensures cells { IfOk result (λ cells. ListsCells self.now.refined cells.items) }
+        ensures served { IsServedGrid self.now }
     {
         self.refined.cells(alloc)
     }
@@ -171,7 +177,7 @@ impl Grid {
 
     // The grid of some refined cells.
     pub(crate) fn of(dim: Dim, refined: CellSet) -> Grid
-        requires { cells_for dim (set.len refined) ≤ 200000 }
+        requires { IsServedGrid (record { dim = dim; refined = refined }) }
         ensures { result ≡ record { dim = dim; refined = refined } }
     {
         Grid { dim, refined }

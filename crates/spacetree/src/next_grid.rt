@@ -7,7 +7,7 @@ ghost use Rattle.peano_keys.specs.Cell.{IsCell};
 ghost use Rattle.peano_keys.specs.Grid.{IsGrid};
 ghost use Rattle.peano_keys.specs.Next.{IsNextGrid};
 ghost use Rattle.spacetree.specs.Counts.{cells_of};
-ghost use Rattle.spacetree.specs.Marked.{AreMarked, HasChildren, IsAddedWhere, NextFails};
+ghost use Rattle.spacetree.specs.Marked.{AreMarked, AreServedMarks, HasChildren, IsAddedWhere, NextFails};
 
 use crate::cells::CellSet;
 use crate::counts::{MOST_CELLS, cells_with};
@@ -74,6 +74,7 @@ pub(crate) fn next_grid(
     requires grid { IsGrid 12 grid.now }
     requires room { cells_of grid.now ≤ 200000 }
     requires count { set.len update.now.refine ≤ 2 ^ 59 }
+    requires marks { AreServedMarks grid.now update.now.refine update.now.coarsen }
     ensures ok { IfOk result (λ next. (marks : CellKey → Mark) → AreMarked grid.now marks update.now.refine update.now.coarsen → IsNextGrid grid.now marks next) }
     ensures room { IfOk result (λ next. cells_of next ≤ 200000) }
     ensures err { IfErr result (λ fault. (marks : CellKey → Mark) → AreMarked grid.now marks update.now.refine update.now.coarsen → NextFails grid.now marks step fault) }

@@ -22,13 +22,13 @@ keep-requires-clause-cell c =
     let cells = c.as_slice-parent-items.result.now in
     let p : CellKey = get_or cells c.loop-parent.parent-index nowhere in
     subst (λ (d : Dim). IsCell d p) (sym c.dim-dim.ensures)
-    (c.requires.cells p (listed_at c.args.grid.now.refined c.in_ok-parents.parents.items cells c.loop-parent.parent-index c.in_ok-parents.ensures c.as_slice-parent-items.ensures.value c.loop-parent-test.true))
+    (c.requires.cells p (listed_at c.args.grid.now.refined c.in_ok-parents.parents.items cells c.loop-parent.parent-index c.in_ok-parents.ensures.cells c.as_slice-parent-items.ensures.value c.loop-parent-test.true))
 
 pub keep-requires-clause-room : goal.keep-requires-clause-room
 keep-requires-clause-room c =
     let cells = c.as_slice-parent-items.result.now in
     c.requires.levels (get_or cells c.loop-parent.parent-index nowhere)
-    (listed_at c.args.grid.now.refined c.in_ok-parents.parents.items cells c.loop-parent.parent-index c.in_ok-parents.ensures c.as_slice-parent-items.ensures.value c.loop-parent-test.true)
+    (listed_at c.args.grid.now.refined c.in_ok-parents.parents.items cells c.loop-parent.parent-index c.in_ok-parents.ensures.cells c.as_slice-parent-items.ensures.value c.loop-parent-test.true)
 
 pub loop-parent-preserved : goal.loop-parent-preserved
 loop-parent-preserved c =
@@ -47,9 +47,9 @@ loop-parent-preserved c =
 pub returns-clause-next : goal.returns-clause-next
 returns-clause-next c marks marked =
     let all : take c.loop-parent.parent-index c.as_slice-parent-items.result.now ≡ c.in_ok-parents.parents.items = take_all c.loop-parent.parent-index c.as_slice-parent-items.result.now c.loop-parent-test.false ∙ c.as_slice-parent-items.ensures.value in
-    next_from_sets c.args.grid.now marks c.args.refine.now c.args.coarsen.now c.loop-parent.refined c.in_ok-parents.parents.items c.requires c.in_ok-parents.ensures marked
+    next_from_sets c.args.grid.now marks c.args.refine.now c.args.coarsen.now c.loop-parent.refined c.in_ok-parents.parents.items c.requires c.in_ok-parents.ensures.cells marked
     (subst (λ (l : List CellKey). Sifts (λ q. HasChildren c.args.grid.now.dim c.args.coarsen.now q → ⊥) l c.args.refine.now c.loop-parent.refined) all c.loop-parent.invariant.sifts)
 
 pub returns-clause-count : goal.returns-clause-count
 returns-clause-count c =
-    omega (arith, listed_count c.args.grid.now.refined c.in_ok-parents.parents.items c.in_ok-parents.ensures, c.as_slice-parent-items.ensures.len, c.loop-parent.invariant.count, c.loop-parent.auto.parent-index-end, ap (λ (l : List CellKey). length l) c.as_slice-parent-items.ensures.value)
+    omega (arith, listed_count c.args.grid.now.refined c.in_ok-parents.parents.items c.in_ok-parents.ensures.cells, c.as_slice-parent-items.ensures.len, c.loop-parent.invariant.count, c.loop-parent.auto.parent-index-end, ap (λ (l : List CellKey). length l) c.as_slice-parent-items.ensures.value)

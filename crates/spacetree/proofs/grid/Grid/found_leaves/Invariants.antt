@@ -5,7 +5,7 @@ use Rattle.peano_keys.specs.Cell.{parent_of, root}
 use Rattle.solver_api.specs.Step.{IsLeafOf}
 use Rattle.spacetree.specs.Leaves.{is_among}
 use Rattle.spacetree.specs.Digits.{HasLeavesOf}
-use Rattle.spacetree.proofs.grid.Grid.leaves.Given as goal
+use Rattle.spacetree.proofs.grid.Grid.found_leaves.Given as goal
 
 abbrev pub invariant-loop-parent : goal.invariant-loop-parent
 invariant-loop-parent l = record {
