@@ -7,12 +7,14 @@ ghost use Rattle.peano_keys.specs.Vertex.{corner_of};
 ghost use Rattle.peano_keys.specs.declared.cell.CellKey.{CellKey};
 ghost use Rattle.peano_keys.specs.Grid.{has_cell};
 ghost use Rattle.sweep_visits.specs.Plan.{is_kept, is_stored, is_stored_in, is_cell_in};
+ghost use Rattle.handed_down.specs.Across.{Surround};
 ghost use Rattle.tree_automaton.specs.Sweep.{TreeSweep, is_owned};
 ghost use Rattle.tree_automaton.specs.Decisions.{Decides, IsCourse, EntryIs, ExitIs, IsLaneIn, IsLaneOut};
 
 use crate::kinds::Serves;
+use handed_down::{Surroundings, next_of_run, previous_of_run};
 use hanging_nodes::stored_here;
-use peano_curve::{Direction, Range, after, before, centre, lane_of};
+use peano_curve::{Direction, Range, centre, lane_of};
 use peano_keys::{CellKey, Dim, VertexKey, corner};
 use peano_records::CellView;
 
@@ -106,11 +108,27 @@ fn is_staying(course: &Course, parent: Option<&CellView>, cell: CellKey, n: u32)
     }
 }
 
+/// What a visited cell knows of the cells round it.
+pub fn around(course: &Course, parent: Option<&CellView>, cell: CellKey) -> Surroundings
+    requires cell { IsCell course.now.dim cell }
+    requires asks { (p : TreeSweep) × Decides p course.now (option_map (λ v. v.now) parent) cell }
+    ensures { Surround course.now.dir course.now.dim course.now.range course.now.depth cell result }
+{
+    Surroundings::of_cell(course.dim, course.dir, course.depth, &course.range, cell)
+}
+
 /// Where a corner of a cell comes from, as the cell is entered.
-pub fn entry_of(course: &Course, parent: Option<&CellView>, cell: CellKey, n: u32) -> Entry
+pub fn entry_of(
+    course: &Course,
+    parent: Option<&CellView>,
+    round: &Surroundings,
+    cell: CellKey,
+    n: u32,
+) -> Entry
     requires cell { IsCell course.now.dim cell }
     requires corner { n < corners course.now.dim }
     requires asks { (p : TreeSweep) × Decides p course.now (option_map (λ v. v.now) parent) cell }
+    requires round { Surround course.now.dir course.now.dim course.now.range course.now.depth cell round.now }
     ensures value { (p : TreeSweep) → Decides p course.now (option_map (λ v. v.now) parent.entry) cell → EntryIs p.plan cell (corner_of cell n) result }
     ensures lane { IsLaneIn course.now.dim result }
 {
@@ -119,23 +137,46 @@ pub fn entry_of(course: &Course, parent: Option<&CellView>, cell: CellKey, n: u3
         return Entry::Hanging;
     }
     let v = corner(course.dim, cell, n);
-    match before(course.dim, v, cell, &course.range, course.depth, course.dir) {
-        Some((_, axis)) => Entry::Lane(lane_of(&v, axis)),
+    match previous_of_run(
+        round,
+        course.dim,
+        course.dir,
+        course.depth,
+        &course.range,
+        cell,
+        n,
+    ) {
+        Some(axis) => Entry::Lane(lane_of(&v, axis)),
         None => { if old { Entry::Input } else { Entry::Made } }
     }
 }
 
 /// Where a kept corner of a cell goes, as the cell is left.
-pub fn exit_of(course: &Course, parent: Option<&CellView>, cell: CellKey, n: u32) -> Exit
+pub fn exit_of(
+    course: &Course,
+    parent: Option<&CellView>,
+    round: &Surroundings,
+    cell: CellKey,
+    n: u32,
+) -> Exit
     requires cell { IsCell course.now.dim cell }
     requires corner { n < corners course.now.dim }
     requires asks { (p : TreeSweep) × Decides p course.now (option_map (λ v. v.now) parent) cell }
+    requires round { Surround course.now.dir course.now.dim course.now.range course.now.depth cell round.now }
     ensures value { (p : TreeSweep) → Decides p course.now (option_map (λ v. v.now) parent.entry) cell → is_kept p.plan (corner_of cell n) ≡ true → ExitIs p.plan cell (corner_of cell n) result }
     ensures lane { IsLaneOut course.now.dim result }
 {
     let v = corner(course.dim, cell, n);
-    match after(course.dim, v, cell, &course.range, course.depth, course.dir) {
-        Some((_, axis)) => Exit::Lane(lane_of(&v, axis)),
+    match next_of_run(
+        round,
+        course.dim,
+        course.dir,
+        course.depth,
+        &course.range,
+        cell,
+        n,
+    ) {
+        Some(axis) => Exit::Lane(lane_of(&v, axis)),
         None => {
             if is_staying(course, parent, cell, n) {
                 Exit::Output

@@ -10,6 +10,7 @@ ghost use Rattle.peano_keys.specs.Cell.{IsCell, parent_of};
 ghost use Rattle.peano_keys.specs.Field.{value_of, sides_of};
 ghost use Rattle.sweep_visits.specs.Visits.{Visit};
 ghost use Rattle.sweep_visits.specs.Moves.{Move};
+ghost use Rattle.handed_down.specs.Across.{Surround};
 ghost use Rattle.tree_automaton.specs.declared.kinds.Serves.TheVariants.{Plain};
 ghost use Rattle.tree_automaton.specs.Sweep.{TreeSweep, served_by};
 ghost use Rattle.tree_automaton.specs.Decisions.{Decides};
@@ -19,10 +20,11 @@ ghost use Rattle.tree_automaton.specs.Visits.{EnterAsks, EnterGives, IsSameTree,
 ghost use Rattle.tree_automaton.specs.Corners.{CornerAsks, CornerGives, CornersAsk, CornersGive, ReadAsks, ReadGives, AreTaken, MovesVertices, AreBeyond};
 
 use crate::automaton::Automaton;
-use crate::decide::{Course, Entry, entry_of, is_old};
+use crate::decide::{Course, Entry, around, entry_of, is_old};
 use crate::kinds::Serves;
 use crate::store::TreeStore;
 use crate::views::{blank_view, edges};
+use handed_down::Surroundings;
 use hanging_nodes::sides_of;
 use peano_keys::{CellKey, Dim, Sides, State, corner as corner_key, home_corner, slot_of};
 use peano_records::{CellView, Corner, Stored};
@@ -87,18 +89,20 @@ fn take_corner(
     store: &mut TreeStore,
     course: &Course,
     parent: Option<&CellView>,
+    round: &Surroundings,
     cell: CellKey,
     n: u32,
     corner: &mut Corner,
 )
     requires cell { IsCell course.now.dim cell }
     requires corner { n < corners course.now.dim }
+    requires round { Surround course.now.dir course.now.dim course.now.range course.now.depth cell round.now }
     requires asks { (m : Story) × (made : List Move) × (more : List Move) × CornerAsks m made more course.now (option_map (λ v. v.now) parent) cell n store.old }
     ensures taken { (m : Story) (made more : List Move) → CornerAsks m made more course.now (option_map (λ v. v.now) parent.entry) cell n store.old → CornerGives m made more cell n store.new corner.new }
     ensures others { MovesVertices store.old store.new }
     ensures spare { course.now.serves ≡ Plain → (store.old.lanes.spare +ℤ pos (vertex_part corner.new)) ≤ℤ store.new.lanes.spare }
 {
-    match entry_of(course, parent, cell, n) {
+    match entry_of(course, parent, round, cell, n) {
         Entry::Lane(lane) => {
             if !pop(store, lane, corner) {
                 unreachable!();
@@ -134,12 +138,14 @@ fn take_corners(
     store: &mut TreeStore,
     course: &Course,
     parent: Option<&CellView>,
+    round: &Surroundings,
     cell: CellKey,
     taken: &mut [Corner; 8],
 )
     requires cell { IsCell course.now.dim cell }
     requires eight { length taken.old ≡ 8 }
     requires beyond { AreBeyond (corners course.now.dim) taken.old }
+    requires round { Surround course.now.dir course.now.dim course.now.range course.now.depth cell round.now }
     requires asks { (m : Story) × (made : List Move) × (more : List Move) × CornersAsk m made more course.now (option_map (λ v. v.now) parent) cell store.old }
     ensures eight { length taken.new ≡ 8 }
     ensures taken { (m : Story) (made more : List Move) → CornersAsk m made more course.now (option_map (λ v. v.now) parent.entry) cell store.old → CornersGive m more course.now cell 0 store.new taken.new }
@@ -150,7 +156,15 @@ fn take_corners(
     let count = corner_count(course.dim);
     for k in 0..count {
         let n = count - 1 - k;
-        take_corner(store, course, parent, cell, n, &mut taken[n as usize]);
+        take_corner(
+            store,
+            course,
+            parent,
+            round,
+            cell,
+            n,
+            &mut taken[n as usize],
+        );
     }
 }
 
@@ -252,7 +266,8 @@ pub(crate) fn enter_into(
 {
     let course = store.course(kind);
     let (was, task) = read_cell(store, &course, parent, cell);
-    take_corners(store, &course, parent, cell, &mut view.corners);
+    let round = around(&course, parent, cell);
+    take_corners(store, &course, parent, &round, cell, &mut view.corners);
     view.key = cell;
     view.was = was;
     view.will = first_will(course.serves, was);

@@ -5,6 +5,7 @@ ghost use Rattle.peano_keys.specs.Dim.{corners};
 ghost use Rattle.peano_keys.specs.Cell.{IsCell};
 ghost use Rattle.sweep_visits.specs.Visits.{Visit};
 ghost use Rattle.sweep_visits.specs.Moves.{Move};
+ghost use Rattle.handed_down.specs.Across.{Surround};
 ghost use Rattle.vertex_stacks.specs.Tales.{capped};
 ghost use Rattle.tree_automaton.specs.TreeLists.{spare_cells};
 ghost use Rattle.tree_automaton.specs.Sweep.{TreeSweep};
@@ -15,9 +16,10 @@ ghost use Rattle.tree_automaton.specs.Visits.{LeaveAsks, LeaveGives, IsSameTree,
 ghost use Rattle.tree_automaton.specs.Corners.{GiveAsks, GiveAllAsks, GivenBelow, GiveGives, MovesVertices, is_leaf_left};
 
 use crate::automaton::Automaton;
-use crate::decide::{Course, Exit, exit_of, is_owned};
+use crate::decide::{Course, Exit, around, exit_of, is_owned};
 use crate::entering::corner_count;
 use crate::store::TreeStore;
+use handed_down::Surroundings;
 use peano_keys::CellKey;
 use peano_records::{CellRecord, CellView, Corner};
 use std::alloc::AllocError;
@@ -28,12 +30,14 @@ fn give_corner(
     store: &mut TreeStore,
     course: &Course,
     parent: Option<&CellView>,
+    round: &Surroundings,
     cell: CellKey,
     n: u32,
     given: &mut Corner,
 ) -> Result<(), AllocError>
     requires cell { IsCell course.now.dim cell }
     requires corner { n < corners course.now.dim }
+    requires round { Surround course.now.dir course.now.dim course.now.range course.now.depth cell round.now }
     requires asks { (m : Story) × (made : List Move) × (more : List Move) × GiveAsks m made more course.now (option_map (λ v. v.now) parent) cell n given.old store.old }
     ensures left { given.new ≡ given.old }
     ensures given { OnOk result ((m : Story) (made more : List Move) → GiveAsks m made more course.now (option_map (λ v. v.now) parent.entry) cell n given.old store.old → GiveGives m made more cell n store.new) }
@@ -42,7 +46,7 @@ fn give_corner(
     ensures memory { pos (vertex_part given.old) ≤ℤ store.old.lanes.spare → IsOk result }
 {
     match given {
-        Corner::Vertex(v) => match exit_of(course, parent, cell, n) {
+        Corner::Vertex(v) => match exit_of(course, parent, round, cell, n) {
             Exit::Lane(lane) => store.push_from(lane, v),
             Exit::Output => store.put_output_from(v),
             Exit::GivenUp => Ok(()),
@@ -56,11 +60,13 @@ fn give_corners(
     store: &mut TreeStore,
     course: &Course,
     parent: Option<&CellView>,
+    round: &Surroundings,
     cell: CellKey,
     given: &mut [Corner; 8],
 ) -> Result<(), AllocError>
     requires cell { IsCell course.now.dim cell }
     requires eight { length given.old ≡ 8 }
+    requires round { Surround course.now.dir course.now.dim course.now.range course.now.depth cell round.now }
     requires asks { (m : Story) × (made : List Move) × (more : List Move) × GiveAllAsks m made more course.now (option_map (λ v. v.now) parent) cell given.old store.old }
     ensures left { given.new ≡ given.old }
     ensures given { OnOk result ((m : Story) (made more : List Move) → GiveAllAsks m made more course.now (option_map (λ v. v.now) parent.entry) cell given.old store.old → GivenBelow m more cell (corners course.now.dim) 0 store.new) }
@@ -69,7 +75,15 @@ fn give_corners(
     ensures memory { pos (vertices_in given.old) ≤ℤ store.old.lanes.spare → IsOk result }
 {
     for n in 0..corner_count(course.dim) {
-        give_corner(store, course, parent, cell, n, &mut given[n as usize])?;
+        give_corner(
+            store,
+            course,
+            parent,
+            round,
+            cell,
+            n,
+            &mut given[n as usize],
+        )?;
     }
     Ok(())
 }
@@ -123,7 +137,8 @@ pub(crate) fn leave_from(
     ensures memory { pos (vertices_in view.old.corners) ≤ℤ store.old.lanes.spare → 0 < spare_cells store.old → IsOk result }
 {
     let course = store.course(kind);
-    give_corners(store, &course, parent, view.key, &mut view.corners)?;
+    let round = around(&course, parent, view.key);
+    give_corners(store, &course, parent, &round, view.key, &mut view.corners)?;
     write_cell(store, &course, parent, view.key, view.will, view.task)
 }
 

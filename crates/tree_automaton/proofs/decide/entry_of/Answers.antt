@@ -1,38 +1,43 @@
-use Rattle.std.proofs.Common.{◌≤◌, subst, sym, ◌∙◌}
+use Rattle.std.proofs.Common.{◌≤◌, ◌==◌, ap, refl, subst, sym, ◌∙◌}
 use Rattle.std.specs.Option.{option_map}
-use Rattle.tree_automaton.proofs.Decided.{level_within}
+use Rattle.peano_keys.specs.declared.vertex.VertexKey.{VertexKey}
+use Rattle.peano_keys.specs.Vertex.{bit_of, corner_of}
+use Rattle.peano_curve.specs.Run.{lane_from}
+use Rattle.handed_down.proofs.Inside.{at_corner}
+use Rattle.tree_automaton.proofs.Decided.{corner_vertex, level_within}
 use Rattle.tree_automaton.proofs.Ways.{in_run, previous_found, previous_none, lane_found}
 use Rattle.tree_automaton.proofs.decide.entry_of.Goals as goal
 
 pub returns-then-not-is_kept-clause-value : goal.returns-then-not-is_kept-clause-value
 returns-then-not-is_kept-clause-value c = λ p d. sym (c.is_kept.ensures p d (c.is_stored_before-old.ensures p d)) ∙ c.if-not-is_kept.true
 
-pub before-requires-clause-run : goal.before-requires-clause-run
-before-requires-clause-run c = let p = c.requires.asks.0 in let d = c.requires.asks.1 in in_run p c.args.course.now (option_map (λ v. v.now) c.args.parent) c.args.cell c.args.n d c.requires.cell c.corner-v.result c.corner-v.ensures.value c.corner-v.ensures.vertex c.corner-v.ensures.touches
+pub previous_of_run-requires-clause-run : goal.previous_of_run-requires-clause-run
+previous_of_run-requires-clause-run c = let p = c.requires.asks.0 in let d = c.requires.asks.1 in in_run p c.args.course.now (option_map (λ v. v.now) c.args.parent) c.args.cell c.args.n d c.requires.cell (corner_of c.args.cell c.args.n) refl (corner_vertex c.args.course.now.dim c.args.cell c.args.n c.requires.cell c.requires.corner) (at_corner c.args.cell c.args.n)
+
+pub previous_of_run-requires-clause-above : goal.previous_of_run-requires-clause-above
+previous_of_run-requires-clause-above c = let p = c.requires.asks.0 in let d = c.requires.asks.1 in subst (λ x. c.args.cell.level ≤ x) d.is.depth (level_within p c.args.cell d.sweep d.there)
 
 pub returns-in-Some-clause-value : goal.returns-in-Some-clause-value
-returns-in-Some-clause-value c = λ p d. (
-  sym (c.is_kept.ensures p d (c.is_stored_before-old.ensures p d)) ∙ c.if-not-is_kept.false,
-  (
-    c.in-Some.field-0-0,
-    previous_found p c.args.course.now (option_map (λ v. v.now) c.args.parent) c.args.cell c.args.n d c.requires.cell c.corner-v.result c.corner-v.ensures.value c.corner-v.ensures.vertex c.corner-v.ensures.touches c.in-Some.field-0-0 c.in-Some.ensures.previous,
-    lane_found p c.args.course.now (option_map (λ v. v.now) c.args.parent) c.args.cell c.args.n d c.requires.cell c.corner-v.result c.corner-v.ensures.value c.corner-v.ensures.vertex c.corner-v.ensures.touches c.in-Some.field-0-0 c.in-Some.axis c.lane_of.result c.in-Some.ensures.axis c.lane_of.ensures.value,
-  ),
-)
+returns-in-Some-clause-value c = λ p d.
+    let a = c.in-Some.ensures in (
+      sym (c.is_kept.ensures p d (c.is_stored_before-old.ensures p d)) ∙ c.if-not-is_kept.false,
+      (
+        a.previous,
+        previous_found p c.args.course.now (option_map (λ v. v.now) c.args.parent) c.args.cell c.args.n d c.requires.cell (corner_of c.args.cell c.args.n) refl (corner_vertex c.args.course.now.dim c.args.cell c.args.n c.requires.cell c.requires.corner) (at_corner c.args.cell c.args.n) a.previous a.follows,
+        lane_found p c.args.course.now (option_map (λ v. v.now) c.args.parent) c.args.cell c.args.n d c.requires.cell (corner_of c.args.cell c.args.n) refl (corner_vertex c.args.course.now.dim c.args.cell c.args.n c.requires.cell c.requires.corner) (at_corner c.args.cell c.args.n) a.previous c.in-Some.axis c.lane_of.result (record { in_use = a.in_use; high = bit_of c.args.n c.in-Some.axis == 1; across = a.across }) (c.lane_of.ensures.value ∙ ap (λ (w : VertexKey). lane_from w c.in-Some.axis) c.corner-v.ensures.value),
+      ),
+    )
 
 pub returns-then-old-clause-value : goal.returns-then-old-clause-value
 returns-then-old-clause-value c = λ p d. (
   sym (c.is_kept.ensures p d (c.is_stored_before-old.ensures p d)) ∙ c.if-not-is_kept.false,
-  previous_none p c.args.course.now (option_map (λ v. v.now) c.args.parent) c.args.cell c.args.n d c.requires.cell c.corner-v.result c.corner-v.ensures.value c.corner-v.ensures.vertex c.corner-v.ensures.touches c.in-None.ensures.previous,
+  previous_none p c.args.course.now (option_map (λ v. v.now) c.args.parent) c.args.cell c.args.n d c.requires.cell (corner_of c.args.cell c.args.n) refl (corner_vertex c.args.course.now.dim c.args.cell c.args.n c.requires.cell c.requires.corner) (at_corner c.args.cell c.args.n) c.in-None.ensures,
   sym (c.is_stored_before-old.ensures p d) ∙ c.if-old.true,
 )
 
 pub returns-else-old-clause-value : goal.returns-else-old-clause-value
 returns-else-old-clause-value c = λ p d. (
   sym (c.is_kept.ensures p d (c.is_stored_before-old.ensures p d)) ∙ c.if-not-is_kept.false,
-  previous_none p c.args.course.now (option_map (λ v. v.now) c.args.parent) c.args.cell c.args.n d c.requires.cell c.corner-v.result c.corner-v.ensures.value c.corner-v.ensures.vertex c.corner-v.ensures.touches c.in-None.ensures.previous,
+  previous_none p c.args.course.now (option_map (λ v. v.now) c.args.parent) c.args.cell c.args.n d c.requires.cell (corner_of c.args.cell c.args.n) refl (corner_vertex c.args.course.now.dim c.args.cell c.args.n c.requires.cell c.requires.corner) (at_corner c.args.cell c.args.n) c.in-None.ensures,
   sym (c.is_stored_before-old.ensures p d) ∙ c.if-old.false,
 )
-
-pub before-requires-clause-above : goal.before-requires-clause-above
-before-requires-clause-above c = let p = c.requires.asks.0 in let d = c.requires.asks.1 in subst (λ x. c.args.cell.level ≤ x) d.is.depth (level_within p c.args.cell d.sweep d.there)

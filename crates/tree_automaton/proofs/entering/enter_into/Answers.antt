@@ -16,6 +16,9 @@ take_corners-requires-clause-asks c =
     let gives = c.read_cell-was.ensures.read r.0 r.1 r.2 (read_asks r.0 r.1 r.2 (option_map (λ v. v.now) c.args.parent) c.args.cell c.args.kind c.args.store.now c.course-course.result c.course-course.ensures r.3) in
     (r.0, moved r.0 r.1 r.2 (option_map (λ v. v.now) c.args.parent) c.args.cell c.args.kind c.args.store.now c.course-course.result c.course-course.ensures r.3, to_move r.0 r.1 r.2 (option_map (λ v. v.now) c.args.parent) c.args.cell c.args.kind c.args.store.now c.course-course.result c.course-course.ensures r.3, corners_ask r.0 r.1 r.2 (option_map (λ v. v.now) c.args.parent) c.args.cell c.args.kind c.args.store.now c.course-course.result c.course-course.ensures r.3 c.read_cell-was.new.store c.read_cell-was.result.0 c.read_cell-was.result.1 gives c.read_cell-was.ensures.others)
 
+pub around-round-requires-clause-asks : goal.around-round-requires-clause-asks
+around-round-requires-clause-asks c = let r = c.requires.asks in (r.0.sweep, decides r.0 r.1 r.2 (option_map (λ v. v.now) c.args.parent) c.args.cell c.args.kind c.args.store.now c.course-course.result c.course-course.ensures r.3)
+
 pub sides_here-view-requires-clause-asks : goal.sides_here-view-requires-clause-asks
 sides_here-view-requires-clause-asks c = let r = c.requires.asks in (r.0.sweep, decides r.0 r.1 r.2 (option_map (λ v. v.now) c.args.parent) c.args.cell c.args.kind c.args.store.now c.course-course.result c.course-course.ensures r.3)
 

@@ -1,4 +1,5 @@
-use Rattle.std.proofs.Common.{refl}
+use Rattle.std.proofs.Common.{refl, arith}
+use Rattle.std.proofs.lemmas.Int.{ints}
 use Rattle.std.specs.Option.{option_map}
 use Rattle.tree_automaton.proofs.Takes.{lane_there, lane_gives, input_gives, made_new, left_hanging, only_lanes, none_moved, as_many_pages}
 use Rattle.tree_automaton.proofs.entering.take_corner.Goals as goal
@@ -37,3 +38,6 @@ returns-in-Made-clause-others c = none_moved c.args.store.now
 
 pub returns-in-Hanging-clause-others : goal.returns-in-Hanging-clause-others
 returns-in-Hanging-clause-others c = none_moved c.args.store.now
+
+pub returns-in-Hanging-clause-spare : goal.returns-in-Hanging-clause-spare
+returns-in-Hanging-clause-spare c = λ plain. omega (arith, ints)

@@ -9,6 +9,9 @@ give_corners-requires-clause-asks c =
     let r = c.requires.asks in
     (told_with r.0 r.1 r.2 (option_map (λ v. v.now) c.args.parent) c.args.view.now.key c.args.view.now c.args.kind c.args.store.now c.course-course.result c.course-course.ensures r.3 c.args.view.now, moved r.0 r.1 r.2 (option_map (λ v. v.now) c.args.parent) c.args.view.now.key c.args.view.now c.args.kind c.args.store.now c.course-course.result c.course-course.ensures r.3, to_move r.0 r.1 r.2 (option_map (λ v. v.now) c.args.parent) c.args.view.now.key c.args.view.now c.args.kind c.args.store.now c.course-course.result c.course-course.ensures r.3, give_asks r.0 r.1 r.2 (option_map (λ v. v.now) c.args.parent) c.args.view.now.key c.args.view.now c.args.kind c.args.store.now c.course-course.result c.course-course.ensures r.3 c.args.view.now)
 
+pub around-round-requires-clause-asks : goal.around-round-requires-clause-asks
+around-round-requires-clause-asks c = let r = c.requires.asks in (r.0.sweep, leaves r.0 r.1 r.2 (option_map (λ v. v.now) c.args.parent) c.args.view.now.key c.args.view.now c.args.kind c.args.store.now c.course-course.result c.course-course.ensures r.3)
+
 pub write_cell-requires-clause-asks : goal.write_cell-requires-clause-asks
 write_cell-requires-clause-asks c = let r = c.requires.asks in (r.0.sweep, leaves r.0 r.1 r.2 (option_map (λ v. v.now) c.args.parent) c.args.view.now.key c.args.view.now c.args.kind c.args.store.now c.course-course.result c.course-course.ensures r.3)
 
