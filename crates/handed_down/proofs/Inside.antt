@@ -63,7 +63,7 @@ held_below dim depth r c cell h up all q there beside =
     record { low = omega (arith, above.low, i.low); high = omega (arith, above.high, i.high) }
 
 -- a cell whose whole interval is in a range is held
-has_holds : (dim : Dim) (depth : ℕ) (r : Range) (q : CellKey) → HasAll r (interval_of dim q depth) → HoldsCell dim depth r q
+pub has_holds : (dim : Dim) (depth : ℕ) (r : Range) (q : CellKey) → HasAll r (interval_of dim q depth) → HoldsCell dim depth r q
 has_holds dim depth r q h =
     let pos = width_positive dim (depth - q.level) in
     (rank_of dim q * width_of dim q.level depth, (omega arith, omega (arith, pos)), (omega (arith, h.low), omega (arith, h.high, pos)))

@@ -86,11 +86,15 @@ level_in : (p : TreeSweep) (c : CellKey) (o : Option Spacetree) → p.plan.old �
 level_in p c None e plan has = absurd (false≢true has)
 level_in p c (Some t) e plan has = has_level p.plan.depth t c (old_grid p t plan e).grid has
 
-pub level_within : (p : TreeSweep) (c : CellKey) → IsTreeSweep p → is_visited p.plan c ≡ true → c.level ≤ p.plan.depth
-level_within p c plan there = ⊎_elim
+-- a cell of one of the grids lies within the depth
+pub level_there : (p : TreeSweep) (c : CellKey) → IsTreeSweep p → (is_cell_in p.plan.old c || has_cell p.plan.new c) ≡ true → c.level ≤ p.plan.depth
+level_there p c plan there = ⊎_elim
     (λ old. level_in p c p.plan.old refl plan old)
-    (λ not. has_level p.plan.depth p.plan.new c plan.new_grid (subst (λ b. (b || has_cell p.plan.new c) ≡ true) not (and_second (is_held p.plan c) (is_cell_in p.plan.old c || has_cell p.plan.new c) there)))
+    (λ not. has_level p.plan.depth p.plan.new c plan.new_grid (subst (λ b. (b || has_cell p.plan.new c) ≡ true) not there))
     (cases_Bool (is_cell_in p.plan.old c))
+
+pub level_within : (p : TreeSweep) (c : CellKey) → IsTreeSweep p → is_visited p.plan c ≡ true → c.level ≤ p.plan.depth
+level_within p c plan there = level_there p c plan (and_second (is_held p.plan c) (is_cell_in p.plan.old c || has_cell p.plan.new c) there)
 
 -- a corner of the root is stored in every grid
 pub root_stored : (t : Spacetree) (c : CellKey) (n : ℕ) → c.level ≡ 0 → IsStored t (corner_of c n)

@@ -1,6 +1,8 @@
 pub mod Stored
 pub mod Decided
 pub mod Ways
+pub mod Handed
+pub mod Told
 pub mod Passings
 pub mod Matches
 pub mod Holds

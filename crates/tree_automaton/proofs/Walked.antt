@@ -1,5 +1,5 @@
 -- The walk of a cell: its enter, what is below it, and its leave.
-use Rattle.std.proofs.Common.{◌≡◌, ◌↔◌, ℕ, ◌<◌, Bool, true, false, List, [], ◌∷◌, ◌++◌, Option, Some, None, refl, ap, sym, ◌∙◌, subst, arith, append_assoc}
+use Rattle.std.proofs.Common.{◌≡◌, ℕ, ◌<◌, true, false, List, [], ◌∷◌, ◌++◌, Option, Some, None, refl, ap, sym, ◌∙◌, subst, arith, append_assoc}
 use Rattle.std.specs.Prelude.{◌||◌}
 use Rattle.peano_keys.specs.declared.cell.CellKey.{CellKey}
 use Rattle.peano_keys.specs.Cell.{IsCell}
@@ -8,13 +8,9 @@ use Rattle.peano_keys.specs.Vertex.{corner_of}
 use Rattle.peano_records.specs.Tells.{corner_at}
 use Rattle.peano_keys.specs.Grid.{has_cell}
 use Rattle.peano_records.specs.declared.view.CellView.{CellView}
-use Rattle.peano_curve.specs.declared.range.Range.{Range}
-use Rattle.peano_curve.specs.Order.{interval_of}
-use Rattle.peano_curve.specs.Run.{Meets, HoldsCell}
 use Rattle.vertex_stacks.specs.declared.kind.Kind.{Kind}
 use Rattle.sweep_visits.specs.Plan.{dim_of, is_cell_in, is_held, is_visited}
 use Rattle.sweep_visits.specs.Visits.{Visit, enter, leave}
-use Rattle.sweep_visits.proofs.Tests.{held_tells, held_told}
 use Rattle.tree_automaton.specs.declared.decide.Course.{Course}
 use Rattle.tree_automaton.specs.TreeLists.{TreeLists}
 use Rattle.tree_automaton.specs.Sweep.{TreeSweep, cell_visits, flag_in, served_by}
@@ -25,8 +21,7 @@ use Rattle.tree_automaton.specs.Decisions.{Decides, IsCourse}
 use Rattle.tree_automaton.specs.Views.{CarriesFrom, ParentFits, ViewFits, value_at_home}
 use Rattle.tree_automaton.specs.Visits.{CornerTaken, EnterAsks, EnterGives, LeaveAsks, LeaveGives, ViewTaken, IsSameTree, left_with}
 use Rattle.tree_automaton.specs.Sweeps.{BelowAsks, CarriesOfParent, ParentWasEntered, WasEntered, IsEntered, IsFor, VisitsGive, WalkAsks, visits_below}
-use Rattle.tree_automaton.proofs.Stored.{and_both, told_as}
-use Rattle.tree_automaton.proofs.Ways.{of_plan, of_course}
+use Rattle.tree_automaton.proofs.Stored.{and_both}
 use Rattle.tree_automaton.proofs.Decided.{sweep_plan}
 use Rattle.tree_automaton.proofs.Entered.{decides}
 use Rattle.tree_automaton.proofs.Promised.{will_set, enter_fits, leave_fits, may_enter, may_leave}
@@ -36,13 +31,6 @@ use Rattle.tree_automaton.proofs.Chains.{entered_during, entered_with, during_ne
 -- the course of a store is that of the sweep
 pub course_is : (p : TreeSweep) (s : TreeLists) (kind : Kind) (course : Course) → IsStoreOf p s → served_by kind ≡ p.serves → course ≡ record { dim = s.lanes.dim; depth = s.depth; range = s.range; dir = s.dir; serves = served_by kind } → IsCourse p course
 course_is p s kind course of_ served is = subst (IsCourse p) (sym is) (record { dim = sym of_.dim; depth = sym of_.depth; range = sym of_.range; dir = sym of_.dir; serves = sym served })
-
--- the test of the range tells whether the cell is held
-pub held_is : (p : TreeSweep) (c : CellKey) (course : Course) (i : Range) (b : Bool) → IsCourse p course → i ≡ interval_of course.dim c course.depth → (b ≡ true) ↔ Meets i course.range → b ≡ is_held p.plan c
-held_is p c course i b same value told =
-    told_as b (is_held p.plan c) (Meets i course.range) told
-    (λ h. subst (λ x. Meets x course.range) (sym value) (of_course p course same (λ d r n way. HoldsCell d n r c) (held_tells p.plan c h)))
-    (λ m. held_told p.plan c (of_plan p course same (λ d r n way. HoldsCell d n r c) (subst (λ x. Meets x course.range) value m)))
 
 -- a store that stays of its tree stays that of a sweep
 pub still_of : (p : TreeSweep) (s t : TreeLists) → IsStoreOf p s → IsSameTree s t → IsStoreOf p t

@@ -5,6 +5,7 @@ pub mod Promises
 pub mod Story
 pub mod Moments
 pub mod Decisions
+pub mod Handed
 pub mod Visits
 pub mod Corners
 pub mod Sweeps

@@ -10,10 +10,10 @@ ghost use Rattle.peano_keys.specs.Cell.{IsCell, parent_of};
 ghost use Rattle.peano_keys.specs.Field.{value_of, sides_of};
 ghost use Rattle.sweep_visits.specs.Visits.{Visit};
 ghost use Rattle.sweep_visits.specs.Moves.{Move};
-ghost use Rattle.handed_down.specs.Across.{Surround};
 ghost use Rattle.tree_automaton.specs.declared.kinds.Serves.TheVariants.{Plain};
 ghost use Rattle.tree_automaton.specs.Sweep.{TreeSweep, served_by};
 ghost use Rattle.tree_automaton.specs.Decisions.{Decides};
+ghost use Rattle.tree_automaton.specs.Handed.{IsRound, IsRoundIn, IsToldAbove};
 ghost use Rattle.tree_automaton.specs.Views.{CarriesFrom, IsPlace, value_at_home};
 ghost use Rattle.tree_automaton.specs.Story.{Story};
 ghost use Rattle.tree_automaton.specs.Visits.{EnterAsks, EnterGives, IsSameTree, will_first, vertex_part, vertices_in};
@@ -24,7 +24,7 @@ use crate::decide::{Course, Entry, around, entry_of, is_old};
 use crate::kinds::Serves;
 use crate::store::TreeStore;
 use crate::views::{blank_view, edges};
-use handed_down::Surroundings;
+use handed_down::{ChildVertices, Surroundings};
 use hanging_nodes::sides_of;
 use peano_keys::{CellKey, Dim, Sides, State, corner as corner_key, home_corner, slot_of};
 use peano_records::{CellView, Corner, Stored};
@@ -89,6 +89,7 @@ fn take_corner(
     store: &mut TreeStore,
     course: &Course,
     parent: Option<&CellView>,
+    told: Option<&ChildVertices>,
     round: &Surroundings,
     cell: CellKey,
     n: u32,
@@ -96,13 +97,14 @@ fn take_corner(
 )
     requires cell { IsCell course.now.dim cell }
     requires corner { n < corners course.now.dim }
-    requires round { Surround course.now.dir course.now.dim course.now.range course.now.depth cell round.now }
+    requires round { IsRound course.now cell round.now }
+    requires told { IsToldAbove course.now.dim course.now.serves (option_map (λ v. v.now) parent) (option_map (λ t. t.now) told) }
     requires asks { (m : Story) × (made : List Move) × (more : List Move) × CornerAsks m made more course.now (option_map (λ v. v.now) parent) cell n store.old }
     ensures taken { (m : Story) (made more : List Move) → CornerAsks m made more course.now (option_map (λ v. v.now) parent.entry) cell n store.old → CornerGives m made more cell n store.new corner.new }
     ensures others { MovesVertices store.old store.new }
     ensures spare { course.now.serves ≡ Plain → (store.old.lanes.spare +ℤ pos (vertex_part corner.new)) ≤ℤ store.new.lanes.spare }
 {
-    match entry_of(course, parent, round, cell, n) {
+    match entry_of(course, parent, told, round, cell, n) {
         Entry::Lane(lane) => {
             if !pop(store, lane, corner) {
                 unreachable!();
@@ -138,6 +140,7 @@ fn take_corners(
     store: &mut TreeStore,
     course: &Course,
     parent: Option<&CellView>,
+    told: Option<&ChildVertices>,
     round: &Surroundings,
     cell: CellKey,
     taken: &mut [Corner; 8],
@@ -145,7 +148,8 @@ fn take_corners(
     requires cell { IsCell course.now.dim cell }
     requires eight { length taken.old ≡ 8 }
     requires beyond { AreBeyond (corners course.now.dim) taken.old }
-    requires round { Surround course.now.dir course.now.dim course.now.range course.now.depth cell round.now }
+    requires round { IsRound course.now cell round.now }
+    requires told { IsToldAbove course.now.dim course.now.serves (option_map (λ v. v.now) parent) (option_map (λ t. t.now) told) }
     requires asks { (m : Story) × (made : List Move) × (more : List Move) × CornersAsk m made more course.now (option_map (λ v. v.now) parent) cell store.old }
     ensures eight { length taken.new ≡ 8 }
     ensures taken { (m : Story) (made more : List Move) → CornersAsk m made more course.now (option_map (λ v. v.now) parent.entry) cell store.old → CornersGive m more course.now cell 0 store.new taken.new }
@@ -160,6 +164,7 @@ fn take_corners(
             store,
             course,
             parent,
+            told,
             round,
             cell,
             n,
@@ -249,11 +254,15 @@ fn first_will(serves: Serves, was: Option<bool>) -> Option<bool>
 pub(crate) fn enter_into(
     store: &mut TreeStore,
     parent: Option<&CellView>,
+    told: Option<&ChildVertices>,
+    round: &Surroundings,
     cell: CellKey,
     kind: Kind,
     view: &mut CellView,
 )
     requires cell { IsCell store.old.lanes.dim cell }
+    requires round { IsRoundIn store.old cell round.now }
+    requires told { IsToldAbove store.old.lanes.dim (served_by kind) (option_map (λ v. v.now) parent) (option_map (λ t. t.now) told) }
     requires place { IsPlace store.old.lanes.dim view.old }
     requires asks { (m : Story) × (made : List Visit) × (more : List Visit) × EnterAsks m made more (option_map (λ v. v.now) parent) cell kind store.old }
     ensures entered { (m : Story) (made more : List Visit) → EnterAsks m made more (option_map (λ v. v.now) parent.entry) cell kind store.old → EnterGives m made more cell store.new view.new }
@@ -266,8 +275,7 @@ pub(crate) fn enter_into(
 {
     let course = store.course(kind);
     let (was, task) = read_cell(store, &course, parent, cell);
-    let round = around(&course, parent, cell);
-    take_corners(store, &course, parent, &round, cell, &mut view.corners);
+    take_corners(store, &course, parent, told, round, cell, &mut view.corners);
     view.key = cell;
     view.was = was;
     view.will = first_will(course.serves, was);
@@ -293,7 +301,8 @@ impl Automaton {
         ensures spare { served_by kind ≡ Plain → (store.old.lanes.spare +ℤ pos (vertices_in result.corners)) ≤ℤ store.new.lanes.spare }
     {
         let mut view = blank_view();
-        enter_into(store, parent, cell, kind, &mut view);
+        let round = around(&store.course(kind), parent, cell);
+        enter_into(store, parent, None, &round, cell, kind, &mut view);
         view
     }
 }

@@ -5,11 +5,11 @@ ghost use Rattle.peano_keys.specs.Dim.{corners};
 ghost use Rattle.peano_keys.specs.Cell.{IsCell};
 ghost use Rattle.sweep_visits.specs.Visits.{Visit};
 ghost use Rattle.sweep_visits.specs.Moves.{Move};
-ghost use Rattle.handed_down.specs.Across.{Surround};
 ghost use Rattle.vertex_stacks.specs.Tales.{capped};
 ghost use Rattle.tree_automaton.specs.TreeLists.{spare_cells};
-ghost use Rattle.tree_automaton.specs.Sweep.{TreeSweep};
+ghost use Rattle.tree_automaton.specs.Sweep.{TreeSweep, served_by};
 ghost use Rattle.tree_automaton.specs.Decisions.{Decides};
+ghost use Rattle.tree_automaton.specs.Handed.{IsRound, IsRoundIn, IsToldAbove};
 ghost use Rattle.tree_automaton.specs.Story.{Story};
 ghost use Rattle.tree_automaton.specs.Moments.{record_by};
 ghost use Rattle.tree_automaton.specs.Visits.{LeaveAsks, LeaveGives, IsSameTree, vertex_part, vertices_in};
@@ -19,7 +19,7 @@ use crate::automaton::Automaton;
 use crate::decide::{Course, Exit, around, exit_of, is_owned};
 use crate::entering::corner_count;
 use crate::store::TreeStore;
-use handed_down::Surroundings;
+use handed_down::{ChildVertices, Surroundings};
 use peano_keys::CellKey;
 use peano_records::{CellRecord, CellView, Corner};
 use std::alloc::AllocError;
@@ -30,6 +30,7 @@ fn give_corner(
     store: &mut TreeStore,
     course: &Course,
     parent: Option<&CellView>,
+    told: Option<&ChildVertices>,
     round: &Surroundings,
     cell: CellKey,
     n: u32,
@@ -37,7 +38,8 @@ fn give_corner(
 ) -> Result<(), AllocError>
     requires cell { IsCell course.now.dim cell }
     requires corner { n < corners course.now.dim }
-    requires round { Surround course.now.dir course.now.dim course.now.range course.now.depth cell round.now }
+    requires round { IsRound course.now cell round.now }
+    requires told { IsToldAbove course.now.dim course.now.serves (option_map (λ v. v.now) parent) (option_map (λ t. t.now) told) }
     requires asks { (m : Story) × (made : List Move) × (more : List Move) × GiveAsks m made more course.now (option_map (λ v. v.now) parent) cell n given.old store.old }
     ensures left { given.new ≡ given.old }
     ensures given { OnOk result ((m : Story) (made more : List Move) → GiveAsks m made more course.now (option_map (λ v. v.now) parent.entry) cell n given.old store.old → GiveGives m made more cell n store.new) }
@@ -46,7 +48,7 @@ fn give_corner(
     ensures memory { pos (vertex_part given.old) ≤ℤ store.old.lanes.spare → IsOk result }
 {
     match given {
-        Corner::Vertex(v) => match exit_of(course, parent, round, cell, n) {
+        Corner::Vertex(v) => match exit_of(course, parent, told, round, cell, n) {
             Exit::Lane(lane) => store.push_from(lane, v),
             Exit::Output => store.put_output_from(v),
             Exit::GivenUp => Ok(()),
@@ -60,13 +62,15 @@ fn give_corners(
     store: &mut TreeStore,
     course: &Course,
     parent: Option<&CellView>,
+    told: Option<&ChildVertices>,
     round: &Surroundings,
     cell: CellKey,
     given: &mut [Corner; 8],
 ) -> Result<(), AllocError>
     requires cell { IsCell course.now.dim cell }
     requires eight { length given.old ≡ 8 }
-    requires round { Surround course.now.dir course.now.dim course.now.range course.now.depth cell round.now }
+    requires round { IsRound course.now cell round.now }
+    requires told { IsToldAbove course.now.dim course.now.serves (option_map (λ v. v.now) parent) (option_map (λ t. t.now) told) }
     requires asks { (m : Story) × (made : List Move) × (more : List Move) × GiveAllAsks m made more course.now (option_map (λ v. v.now) parent) cell given.old store.old }
     ensures left { given.new ≡ given.old }
     ensures given { OnOk result ((m : Story) (made more : List Move) → GiveAllAsks m made more course.now (option_map (λ v. v.now) parent.entry) cell given.old store.old → GivenBelow m more cell (corners course.now.dim) 0 store.new) }
@@ -79,6 +83,7 @@ fn give_corners(
             store,
             course,
             parent,
+            told,
             round,
             cell,
             n,
@@ -93,11 +98,13 @@ fn write_cell(
     store: &mut TreeStore,
     course: &Course,
     parent: Option<&CellView>,
+    round: &Surroundings,
     cell: CellKey,
     will: Option<bool>,
     task: u32,
 ) -> Result<(), AllocError>
     requires cell { IsCell course.now.dim cell }
+    requires round { IsRound course.now cell round.now }
     requires asks { (p : TreeSweep) × Decides p course.now (option_map (λ v. v.now) parent) cell }
     ensures written { OnOk result (store.new.written ≡ store.old.written ++ record_by will task) }
     ensures counted { OnOk result ((p : TreeSweep) → Decides p course.now (option_map (λ v. v.now) parent.entry) cell → store.new.counted ≡ (if is_leaf_left p.plan cell will then capped (store.old.counted + 1) else store.old.counted)) }
@@ -112,7 +119,7 @@ fn write_cell(
     if refined {
         return Ok(());
     }
-    if is_owned(course, parent, cell) {
+    if is_owned(course, parent, round, cell) {
         store.count_leaf();
     }
     Ok(())
@@ -122,10 +129,14 @@ fn write_cell(
 pub(crate) fn leave_from(
     store: &mut TreeStore,
     parent: Option<&CellView>,
+    told: Option<&ChildVertices>,
+    round: &Surroundings,
     view: &mut CellView,
     kind: Kind,
 ) -> Result<(), AllocError>
     requires cell { IsCell store.old.lanes.dim view.old.key }
+    requires round { IsRoundIn store.old view.old.key round.now }
+    requires told { IsToldAbove store.old.lanes.dim (served_by kind) (option_map (λ v. v.now) parent) (option_map (λ t. t.now) told) }
     requires asks { (m : Story) × (made : List Visit) × (more : List Visit) × LeaveAsks m made more (option_map (λ v. v.now) parent) view.old.key view.old kind store.old }
     ensures stays { view.new ≡ view.old }
     ensures left { OnOk result ((m : Story) (made more : List Visit) → LeaveAsks m made more (option_map (λ v. v.now) parent.entry) view.old.key view.old kind store.old → LeaveGives m made more view.old.key view.old store.new) }
@@ -137,9 +148,18 @@ pub(crate) fn leave_from(
     ensures memory { pos (vertices_in view.old.corners) ≤ℤ store.old.lanes.spare → 0 < spare_cells store.old → IsOk result }
 {
     let course = store.course(kind);
-    let round = around(&course, parent, view.key);
-    give_corners(store, &course, parent, &round, view.key, &mut view.corners)?;
-    write_cell(store, &course, parent, view.key, view.will, view.task)
+    give_corners(
+        store,
+        &course,
+        parent,
+        told,
+        round,
+        view.key,
+        &mut view.corners,
+    )?;
+    write_cell(
+        store, &course, parent, round, view.key, view.will, view.task,
+    )
 }
 
 impl Automaton {
@@ -162,6 +182,7 @@ impl Automaton {
         ensures memory { pos (vertices_in view.corners) ≤ℤ store.old.lanes.spare → 0 < spare_cells store.old → IsOk result }
     {
         let mut view = view;
-        leave_from(store, parent, &mut view, kind)
+        let round = around(&store.course(kind), parent, view.key);
+        leave_from(store, parent, None, &round, &mut view, kind)
     }
 }

@@ -11,20 +11,22 @@ ghost use Rattle.tree_automaton.specs.AtRest.{HasLists};
 ghost use Rattle.tree_automaton.specs.declared.kinds.Serves.TheVariants.{Plain};
 ghost use Rattle.tree_automaton.specs.Sweep.{TreeSweep, IsTreeSweep, cell_visits, flag_in, served_by};
 ghost use Rattle.tree_automaton.specs.Decisions.{Decides};
+ghost use Rattle.tree_automaton.specs.Handed.{IsRoundIn, IsTold, IsToldAbove};
 ghost use Rattle.tree_automaton.specs.Promises.{IsViewIn};
 ghost use Rattle.tree_automaton.specs.Views.{IsPlace, HavePlaces, ViewFits, says};
 ghost use Rattle.tree_automaton.specs.Story.{Story};
 ghost use Rattle.tree_automaton.specs.Visits.{ViewTaken, IsSameTree};
 ghost use Rattle.tree_automaton.specs.Sweeps.{SweepAsks, SweepGives, IsFor, WalkAsks, BelowAsks, VisitsGive, HasRoom, StaysNotLive, KeepsRoom, visits_below, visits_rest};
 
-use crate::decide::{Course, is_new};
+use crate::decide::{Course, is_held, is_new, told_below};
 use crate::entering::enter_into;
 use crate::kinds::Serves;
 use crate::leaving::leave_from;
 use crate::store::TreeStore;
 use crate::views::{blank_view, blank_views};
 use crate::visitor::Visitor;
-use peano_curve::{first_child, interval, next_child};
+use handed_down::{ChildVertices, Surroundings};
+use peano_curve::{first_child, next_child};
 use peano_keys::CellKey;
 use peano_records::CellView;
 use std::alloc::AllocError;
@@ -77,11 +79,15 @@ fn walk<V: Visitor>(
     visitor: &mut V,
     kind: Kind,
     parent: Option<&CellView>,
+    told: Option<&ChildVertices>,
+    round: &Surroundings,
     cell: CellKey,
     view: &mut CellView,
     below: &mut [CellView],
 ) -> Result<(), AllocError>
     requires cell { IsCell store.old.lanes.dim cell }
+    requires round { IsRoundIn store.old cell round.now }
+    requires told { IsToldAbove store.old.lanes.dim (served_by kind) (option_map (λ v. v.now) parent) (option_map (λ t. t.now) told) }
     requires place { IsPlace store.old.lanes.dim view.old }
     requires places { HavePlaces store.old.lanes.dim (cell.level + 1) below.old }
     requires asks { (m : Story) × (made : List Visit) × (more : List Visit) × WalkAsks m (V.meaning visitor.old) made more (option_map (λ v. v.now) parent) cell kind store.old }
@@ -95,15 +101,15 @@ fn walk<V: Visitor>(
     ensures memory { (m : Story) (made more : List Visit) → WalkAsks m (V.meaning visitor.old) made more (option_map (λ v. v.now) parent.entry) cell kind store.old → HasRoom m.sweep (V.meaning visitor.old) store.old → IsOk result }
 {
     let course = store.course(kind);
-    if !interval(course.dim, cell, course.depth).meets(&course.range) {
+    if !is_held(&course, round, cell) {
         return Ok(());
     }
-    enter_into(store, parent, cell, kind, view);
+    enter_into(store, parent, told, round, cell, kind, view);
     foresee(visitor, &course, parent, view);
     visitor.enter(view)?;
-    walk_below(store, visitor, kind, view, below)?;
+    walk_below(store, visitor, kind, round, view, below)?;
     visitor.leave(view)?;
-    leave_from(store, parent, view, kind)
+    leave_from(store, parent, told, round, view, kind)
 }
 
 // Visits all below a cell.
@@ -112,10 +118,12 @@ fn walk_below<V: Visitor>(
     store: &mut TreeStore,
     visitor: &mut V,
     kind: Kind,
+    round: &Surroundings,
     view: &CellView,
     views: &mut [CellView],
 ) -> Result<(), AllocError>
     requires cell { IsCell store.old.lanes.dim view.now.key }
+    requires round { IsRoundIn store.old view.now.key round.now }
     requires places { HavePlaces store.old.lanes.dim (view.now.key.level + 1) views.old }
     requires asks { (m : Story) × (made : List Visit) × (more : List Visit) × BelowAsks m (V.meaning visitor.old) made more view.now.key view.now (visits_below m.sweep.plan view.now.key) kind store.old }
     ensures places { OnOk result (HavePlaces store.old.lanes.dim (view.now.key.level + 1) views.new) }
@@ -129,9 +137,16 @@ fn walk_below<V: Visitor>(
     if !is_opened(view) {
         return Ok(());
     }
-    let child = first_child(store.dim(), view.key, store.direction());
+    let dim = store.dim();
+    let around = round.looked_at(dim, store.depth(), &store.range(), view.key);
+    let told = told_below(dim, Serves::of(kind), view);
+    let child = first_child(dim, view.key, store.direction());
     match views.split_first_mut() {
-        Some((first, below)) => walk_from(store, visitor, kind, view, child, first, below),
+        Some((first, below)) => {
+            walk_from(
+                store, visitor, kind, view, &told, &around, child, first, below,
+            )
+        }
         None => unreachable!(),
     }
 }
@@ -143,11 +158,15 @@ fn walk_from<V: Visitor>(
     visitor: &mut V,
     kind: Kind,
     parent: &CellView,
+    told: &ChildVertices,
+    above: &Surroundings,
     cell: CellKey,
     view: &mut CellView,
     below: &mut [CellView],
 ) -> Result<(), AllocError>
     requires cell { IsCell store.old.lanes.dim cell }
+    requires round { IsRoundIn store.old parent.now.key above.now }
+    requires told { IsTold store.old.lanes.dim (served_by kind) parent.now told.now }
     requires place { IsPlace store.old.lanes.dim view.old }
     requires places { HavePlaces store.old.lanes.dim (cell.level + 1) below.old }
     requires child { parent_of cell ≡ parent.now.key }
@@ -162,9 +181,22 @@ fn walk_from<V: Visitor>(
     ensures room { OnOk result (KeepsRoom kind store.old store.new) }
     ensures memory { (m : Story) (made more : List Visit) → BelowAsks m (V.meaning visitor.old) made more parent.now.key parent.now (visits_rest m.sweep.plan cell) kind store.old → is_opened m.sweep.plan parent.now.key ≡ true → HasRoom m.sweep (V.meaning visitor.old) store.old → IsOk result }
 {
-    walk(store, visitor, kind, Some(parent), cell, view, below)?;
-    match next_child(store.dim(), cell, store.direction()) {
-        Some(next) => walk_from(store, visitor, kind, parent, next, view, below),
+    let dim = store.dim();
+    let dir = store.direction();
+    let round = above.below(dim, dir, cell);
+    walk(
+        store,
+        visitor,
+        kind,
+        Some(parent),
+        Some(told),
+        &round,
+        cell,
+        view,
+        below,
+    )?;
+    match next_child(dim, cell, dir) {
+        Some(next) => walk_from(store, visitor, kind, parent, told, above, next, view, below),
         None => Ok(()),
     }
 }
@@ -192,7 +224,18 @@ pub fn sweep<V: Visitor>(
     store.reserve()?;
     let mut view = blank_view();
     let mut below = blank_views();
-    walk(store, visitor, kind, None, root(), &mut view, &mut below)?;
+    let round = Surroundings::of_root(store.dim(), store.depth(), &store.range());
+    walk(
+        store,
+        visitor,
+        kind,
+        None,
+        None,
+        &round,
+        root(),
+        &mut view,
+        &mut below,
+    )?;
     Ok(store.turn(step, kind))
 }
 

@@ -6,6 +6,7 @@ use Rattle.tree_automaton.specs.TreeLists.{TreeLists, IsRoomy, page_count, room_
 use Rattle.vertex_stacks.specs.Lists.{held}
 use Rattle.tree_automaton.specs.Sweep.{cell_visits}
 use Rattle.tree_automaton.specs.Sweeps.{VisitsGive, WalkAsks}
+use Rattle.tree_automaton.proofs.Handed.{root_round}
 use Rattle.tree_automaton.proofs.Results.{on_err}
 use Rattle.tree_automaton.proofs.Swept.{start, walk_asks, has_room, drained, all_read, swept, held_is_stored, roomy_after}
 use Rattle.tree_automaton.proofs.Rests.{next_at_rest}
@@ -60,3 +61,9 @@ walk-requires-clause-place g c = c.blank_view-view.ensures c.reserve.new.self.la
 
 pub walk-requires-clause-places : goal.walk-requires-clause-places
 walk-requires-clause-places g c = subst (λ q. HavePlaces c.reserve.new.self.lanes.dim (q.level + 1) c.blank_views-below.result) (sym c.root.ensures) (c.blank_views-below.ensures c.reserve.new.self.lanes.dim)
+
+pub of_root-round-requires : goal.of_root-round-requires
+of_root-round-requires g c = let r = c.requires.asks in record { depth = subst (λ d. d ≤ 12) (sym (c.depth.ensures ∙ (ap (λ z. z.depth) c.reserve.ensures.lists ∙ (ap (λ z. z.depth) c.stop.ensures ∙ r.1.rest.of.depth)))) r.1.sweep.deep }
+
+pub walk-requires-clause-round : goal.walk-requires-clause-round
+walk-requires-clause-round g c = root_round c.reserve.new.self c.dim.result c.depth.result c.range.result c.root.result c.of_root-round.result c.dim.ensures c.depth.ensures c.range.ensures c.root.ensures c.of_root-round.ensures
