@@ -85,11 +85,17 @@ impl Stored {
         record.set(1, opening_slot(dim, key, 1));
         record.set(2, opening_slot(dim, key, 2));
         record.set(3, opening_slot(dim, key, 3));
-        record.set(4, opening_slot(dim, key, 4));
-        record.set(5, opening_slot(dim, key, 5));
-        record.set(6, opening_slot(dim, key, 6));
-        record.set(7, opening_slot(dim, key, 7));
-        record
+        match dim {
+            // A plane has no slots beyond these, so their column is not used.
+            Dim::Two => record,
+            Dim::Three => {
+                record.set(4, opening_slot(dim, key, 4));
+                record.set(5, opening_slot(dim, key, 5));
+                record.set(6, opening_slot(dim, key, 6));
+                record.set(7, opening_slot(dim, key, 7));
+                record
+            }
+        }
     }
 
     /// The vertex.
