@@ -1,5 +1,5 @@
 -- Columns: one slot of four changes, and what that does to the record.
-use Rattle.std.proofs.Common.{◌≡◌, ℕ, zero, suc, ◌+◌, ◌-◌, ◌<◌, List, [], ◌∷◌, ◌++◌, length, get_or, set, refl, arith, Bool, true, false, sym, ◌∙◌, ap}
+use Rattle.std.proofs.Common.{◌≡◌, ℕ, zero, suc, ◌+◌, ◌-◌, ◌<◌, ◌≤◌, subst, List, [], ◌∷◌, ◌++◌, length, set, refl, arith, Bool, true, false, sym, ◌∙◌, ap}
 use Rattle.std.proofs.lemmas.Bool.{false≢true}
 use Rattle.std.proofs.lemmas.List.{set-append_left}
 use Rattle.peano_records.specs.declared.slot.Slot.{Slot}
@@ -10,8 +10,8 @@ use Rattle.peano_records.specs.declared.columns.FourSlots.{FourSlots}
 use Rattle.peano_records.specs.declared.columns.Near.{Near}
 use Rattle.peano_records.specs.declared.columns.More.{More}
 use Rattle.peano_records.specs.declared.slot.Status.TheVariants.{Unset}
-use Rattle.peano_records.specs.Columns.{slot_by, IsNarrow, one_of, four_of, far_of, record_of, no_parts, no_firsts, no_rests}
-use Rattle.peano_records.specs.Slots.{VertexRecord, slot_at, with_slot, blank}
+use Rattle.peano_records.specs.Columns.{slot_by, IsNarrow, one_of, four_of, far_of, record_of}
+use Rattle.peano_records.specs.Slots.{slot_at, with_slot, blank}
 
 -- one of four slots changes
 set_by_cases : (wide : Bool) (p0 p1 p2 p3 p : SmallParts) (f0 f1 f2 f3 f : Firsts) (r0 r1 r2 r3 r : Rests) (k : ℕ) → k < 4 → four_of wide (record { firsts = set (f0 ∷ f1 ∷ f2 ∷ f3 ∷ []) k f; parts = set (p0 ∷ p1 ∷ p2 ∷ p3 ∷ []) k p }) (set (r0 ∷ r1 ∷ r2 ∷ r3 ∷ []) k r) ≡ set (four_of wide (record { firsts = f0 ∷ f1 ∷ f2 ∷ f3 ∷ []; parts = p0 ∷ p1 ∷ p2 ∷ p3 ∷ [] }) (r0 ∷ r1 ∷ r2 ∷ r3 ∷ [])) k (slot_by wide p f r)
@@ -83,3 +83,14 @@ eight_slots near far more = eight near.has_far
     eight : (b : Bool) → length (four_of near.has_more near.slots more.near ++ far_of b near.has_more far more.far) ≡ 8
     eight true = refl
     eight false = refl
+
+-- where a record has not slots 4 to 7, they are blank
+pub far_blank : (near : Near) (far : FourSlots) (more : More) (n : ℕ) → near.has_far ≡ false → 4 ≤ n → n < 8 → slot_at (record_of near far more) n ≡ blank Unset
+far_blank near far more n e least most = let k : 4 + (n - 4) ≡ n = omega (arith, least) in subst (λ i. slot_at (record_of near far more) i ≡ blank Unset) k (by (n - 4) (omega (arith, most)))
+  where
+    by : (k : ℕ) → k < 4 → slot_at (record_of near far more) (4 + k) ≡ blank Unset
+    by zero h = rw e refl
+    by (suc zero) h = rw e refl
+    by (suc (suc zero)) h = rw e refl
+    by (suc (suc (suc zero))) h = rw e refl
+    by (suc (suc (suc (suc k)))) h = absurd (omega (arith, h))

@@ -7,6 +7,7 @@ ghost use Rattle.peano_records.specs.declared.columns.More.{More};
 ghost use Rattle.peano_records.specs.declared.columns.Count.TheVariants.{One};
 ghost use Rattle.peano_records.specs.Columns.{state_of, counted, state_in, slot_by, IsNarrow, one_of, four_of, record_of, no_slots, nowhere};
 ghost use Rattle.peano_records.specs.Slots.{slot_at, with_slot};
+ghost use Rattle.peano_records.specs.Tells.{slot_tells};
 
 use crate::slot::{Intent, Slot, Status};
 use crate::stored::Parcel;
@@ -203,6 +204,32 @@ fn slot_of_four(wide: bool, four: &FourSlots, rests: &[Rests; 4], k: usize) -> S
     }
 }
 
+// The value of slot `k` of four.
+fn value_of_four(wide: bool, four: &FourSlots, rests: &[Rests; 4], k: usize) -> State
+    requires { k < 4 }
+    ensures { result ≡ (one_of wide four.now rests.now k).value }
+{
+    state(
+        wide,
+        four.parts[k].value_count,
+        four.firsts[k].value,
+        &rests[k].value,
+    )
+}
+
+// Whether slot `k` of four tells that its cell is refined in the old grid, or with `after` in the new one.
+fn tells_of_four(four: &FourSlots, k: usize, after: bool) -> bool
+    requires { k < 4 }
+    ensures { (wide : Bool) (rests : List Rests) → result ≡ slot_tells after (one_of wide four.now rests k) }
+{
+    let parts = four.parts[k];
+    match parts.intent {
+        Intent::Stay => matches!(parts.status, Status::Refined),
+        Intent::Split => after,
+        Intent::Merge => !after,
+    }
+}
+
 // Changes slot `k` of four, whose states have one value each, unless `wide`.
 fn set_in_four(wide: bool, four: &mut FourSlots, rests: &mut [Rests; 4], k: usize, slot: &Pieces)
     requires place { k < 4 }
@@ -310,6 +337,35 @@ impl Near {
             slot_of_four(self.has_more, far, &more.far, n as usize - 4)
         } else {
             Slot::blank(Status::Unset)
+        }
+    }
+
+    /// The value in slot number `n`, which is below 8.
+    pub fn value(&self, far: &FourSlots, more: &More, n: u32) -> State
+        requires { n < 8 }
+        ensures { result ≡ (slot_at (record_of self.now far.now more.now) n).value }
+    {
+        if n < 4 {
+            value_of_four(self.has_more, &self.slots, &more.near, n as usize)
+        } else if self.has_far {
+            value_of_four(self.has_more, far, &more.far, n as usize - 4)
+        } else {
+            State::Single(0)
+        }
+    }
+
+    /// Whether slot number `n`, which is below 8, tells that its cell is refined in the old grid, or with `after` in the
+    /// new one.
+    pub fn tells(&self, far: &FourSlots, n: u32, after: bool) -> bool
+        requires { n < 8 }
+        ensures { (more : More) → result ≡ slot_tells after (slot_at (record_of self.now far.now more) n) }
+    {
+        if n < 4 {
+            tells_of_four(&self.slots, n as usize, after)
+        } else if self.has_far {
+            tells_of_four(far, n as usize - 4, after)
+        } else {
+            false
         }
     }
 

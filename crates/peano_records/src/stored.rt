@@ -4,10 +4,11 @@ ghost use Rattle.peano_keys.specs.Vertex.{IsVertex};
 ghost use Rattle.peano_keys.specs.Dim.{corners};
 ghost use Rattle.peano_records.specs.Slots.{slot_at, with_slot, fresh_slot, fresh, untold};
 ghost use Rattle.peano_records.specs.Columns.{record_of};
+ghost use Rattle.peano_records.specs.Tells.{slot_tells};
 
 use crate::columns::{FourSlots, More, Near};
 use crate::slot::{Slot, Status};
-use peano_keys::{Dim, VertexKey, adjacent};
+use peano_keys::{Dim, State, VertexKey, adjacent};
 use std::marker::Model;
 use std::mem::size_of;
 
@@ -112,6 +113,23 @@ impl Stored {
         ensures eight { length self.now.slots ≡ 8 }
     {
         self.near.slot(&self.far, &self.more, n)
+    }
+
+    /// The value in slot number `n`, which is below 8.
+    pub fn value(&self, n: u32) -> State
+        requires { n < 8 }
+        ensures { result ≡ (slot_at self.now n).value }
+    {
+        self.near.value(&self.far, &self.more, n)
+    }
+
+    /// Whether slot number `n`, which is below 8, tells that its cell is refined in the old grid, or with `after` in the new
+    /// one.
+    pub fn tells(&self, n: u32, after: bool) -> bool
+        requires { n < 8 }
+        ensures { result ≡ slot_tells after (slot_at self.now n) }
+    {
+        self.near.tells(&self.far, n, after)
     }
 
     /// Changes slot number `n`, which is below 8, and nothing else.

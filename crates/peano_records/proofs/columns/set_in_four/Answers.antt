@@ -1,5 +1,5 @@
-use Rattle.std.proofs.Common.{rules, ◌≡◌, ◌∙◌, sym, ap}
-use Rattle.std.specs.Prelude.{false, true, slice_set}
+use Rattle.std.proofs.Common.{rules, ◌∙◌, ap}
+use Rattle.std.specs.Prelude.{slice_set}
 use Rattle.peano_records.specs.Columns.{four_of, slot_by}
 use Rattle.peano_records.proofs.Halves.{set_of_four, set_narrow}
 use Rattle.peano_records.proofs.columns.set_in_four.Goals as goal

@@ -1,4 +1,4 @@
-use Rattle.std.proofs.Common.{◌≡◌, ◌+◌, ◌-◌, arith, ◌∙◌}
+use Rattle.std.proofs.Common.{◌-◌, arith, ◌∙◌}
 use Rattle.peano_records.proofs.Halves.{near_at, far_at}
 use Rattle.peano_records.proofs.columns.Near.slot.Goals as goal
 

@@ -1,4 +1,4 @@
-use Rattle.std.proofs.Common.{◌≡◌, rules}
+use Rattle.std.proofs.Common.{rules}
 use Rattle.peano_records.proofs.Halves.{widened}
 use Rattle.peano_records.proofs.columns.Near.widen.Goals as goal
 
