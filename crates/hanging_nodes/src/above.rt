@@ -11,7 +11,7 @@ ghost use Rattle.hanging_nodes.specs.Views.{AreGrids, Shows, IsStoredIn};
 
 use crate::corner_in::corner_in;
 use peano_keys::{CellKey, Dim, VertexKey, adjacent, corner};
-use peano_records::{CellView, Corner, Intent, Slot, Status, Stored};
+use peano_records::{CellView, Corner, Stored};
 
 // The bit of the corner that decides, on one axis.
 fn bit_above(x: u32, v: u32) -> u32
@@ -73,17 +73,6 @@ pub(crate) fn holds_vertex(dim: Dim, cell: CellKey, fine: &VertexKey) -> bool
         && fine.v[2] <= 3 * cell.x[2] + 3
 }
 
-// Whether a slot tells that its cell is refined.
-fn is_told(slot: Slot, after: bool) -> bool
-    ensures { result ≡ slot_tells after slot }
-{
-    match slot.intent {
-        Intent::Stay => matches!(slot.status, Status::Refined),
-        Intent::Split => after,
-        Intent::Merge => !after,
-    }
-}
-
 // What is asked about: a vertex of a cell's children, and one of the two grids.
 #[derive(Clone, Copy)]
 struct Question {
@@ -106,8 +95,7 @@ fn allows(question: Question, above: VertexKey, stored: &Stored, k: u32) -> bool
     match adjacent(question.dim, above, k) {
         None => true,
         Some(other) => {
-            !holds_vertex(question.dim, other, &question.fine)
-                || is_told(stored.slot(k), question.after)
+            !holds_vertex(question.dim, other, &question.fine) || stored.tells(k, question.after)
         }
     }
 }

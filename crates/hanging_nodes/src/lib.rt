@@ -10,4 +10,4 @@ mod sides;
 mod tests;
 
 pub use above::stored_here;
-pub use sides::sides_of;
+pub use sides::{sides_into, sides_of};

@@ -14,7 +14,7 @@ returns-in-Vertex c = λ t f dim refined corners_are above.
     let number = c.anchor_corner-2.ensures.value in
     let is = sym (ap (λ n. slice_index_or c.args.corners.now n Beyond) number) ∙ sym c.corner_in.ensures ∙ c.in-Vertex.is in
     let place = c.slot_of-slot.ensures.value ∙ ap (slot_from c.args.dim) (c.anchor_corner.ensures.value ∙ ap (anchor_of c.args.dim c.in-Some.other) c.turned_round.ensures) in
-    c.same.ensures ∙ ap (λ s. Same s.value) (c.slot.ensures.value ∙ ap (slot_at c.in-Vertex.stored) place)
+    ap Same (c.value.ensures ∙ ap (λ k. (slot_at c.in-Vertex.stored k).value) place)
     ∙ across_vertex t f c.args.child c.in-Some.other c.args.face c.args.corners.now c.requires.below found corners_are c.args.dim dim c.in-Vertex.stored c.requires.cell c.requires.axis is
 
 pub returns-in_default-corner_in : goal.returns-in_default-corner_in
