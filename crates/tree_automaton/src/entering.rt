@@ -25,7 +25,7 @@ use crate::kinds::Serves;
 use crate::store::TreeStore;
 use crate::views::{blank_view, edges};
 use handed_down::{ChildVertices, Surroundings};
-use hanging_nodes::sides_of;
+use hanging_nodes::sides_into;
 use peano_keys::{CellKey, Dim, Sides, State, corner as corner_key, home_corner, slot_of};
 use peano_records::{CellView, Corner, Stored};
 use vertex_stacks::Kind;
@@ -194,23 +194,28 @@ fn read_cell(
     }
 }
 
-// What a cell sees across its faces, where a plain sweep tells.
+// What a cell sees across its faces, where a plain sweep tells, written over what stands in its place.
 fn sides_here(
     course: &Course,
     parent: Option<&CellView>,
     cell: CellKey,
     taken: &[Corner; 8],
-) -> Sides
+    sides: &mut Sides,
+)
     requires cell { IsCell course.now.dim cell }
     requires asks { (p : TreeSweep) × Decides p course.now (option_map (λ v. v.now) parent) cell }
-    ensures { (m : Story) → Decides m.sweep course.now (option_map (λ v. v.now) parent.entry) cell → course.now.serves ≡ Plain → AreTaken m cell taken.now → result ≡ sides_of m.sweep.plan.new m.sweep.field cell }
+    ensures { (m : Story) → Decides m.sweep course.now (option_map (λ v. v.now) parent.entry) cell → course.now.serves ≡ Plain → AreTaken m cell taken.now → sides.new ≡ sides_of m.sweep.plan.new m.sweep.field cell }
 {
     match course.serves {
         Serves::Plain => match parent {
-            Some(view) => sides_of(course.dim, cell, view, taken),
-            None => edges(),
+            Some(view) => sides_into(course.dim, cell, view, taken, sides),
+            None => {
+                *sides = edges();
+            }
         },
-        Serves::Raising | Serves::Adapting => edges(),
+        Serves::Raising | Serves::Adapting => {
+            *sides = edges();
+        }
     }
 }
 
@@ -280,7 +285,7 @@ pub(crate) fn enter_into(
     view.was = was;
     view.will = first_will(course.serves, was);
     view.task = task;
-    view.sides = sides_here(&course, parent, cell, &view.corners);
+    sides_here(&course, parent, cell, &view.corners, &mut view.sides);
     view.carried = carried_here(&course, parent, cell);
 }
 

@@ -18,8 +18,8 @@ take_corners-requires-clause-asks c =
     let gives = c.read_cell-was.ensures.read r.0 r.1 r.2 (read_asks r.0 r.1 r.2 (option_map (λ v. v.now) c.args.parent) c.args.cell c.args.kind c.args.store.now c.course-course.result c.course-course.ensures r.3) in
     (r.0, moved r.0 r.1 r.2 (option_map (λ v. v.now) c.args.parent) c.args.cell c.args.kind c.args.store.now c.course-course.result c.course-course.ensures r.3, to_move r.0 r.1 r.2 (option_map (λ v. v.now) c.args.parent) c.args.cell c.args.kind c.args.store.now c.course-course.result c.course-course.ensures r.3, corners_ask r.0 r.1 r.2 (option_map (λ v. v.now) c.args.parent) c.args.cell c.args.kind c.args.store.now c.course-course.result c.course-course.ensures r.3 c.read_cell-was.new.store c.read_cell-was.result.0 c.read_cell-was.result.1 gives c.read_cell-was.ensures.others)
 
-pub sides_here-view-requires-clause-asks : goal.sides_here-view-requires-clause-asks
-sides_here-view-requires-clause-asks c = let r = c.requires.asks in (r.0.sweep, decides r.0 r.1 r.2 (option_map (λ v. v.now) c.args.parent) c.args.cell c.args.kind c.args.store.now c.course-course.result c.course-course.ensures r.3)
+pub sides_here-requires-clause-asks : goal.sides_here-requires-clause-asks
+sides_here-requires-clause-asks c = let r = c.requires.asks in (r.0.sweep, decides r.0 r.1 r.2 (option_map (λ v. v.now) c.args.parent) c.args.cell c.args.kind c.args.store.now c.course-course.result c.course-course.ensures r.3)
 
 pub carried_here-view-requires-clause-asks : goal.carried_here-view-requires-clause-asks
 carried_here-view-requires-clause-asks c = let r = c.requires.asks in (r.0.sweep, decides r.0 r.1 r.2 (option_map (λ v. v.now) c.args.parent) c.args.cell c.args.kind c.args.store.now c.course-course.result c.course-course.ensures r.3)
@@ -30,7 +30,7 @@ returns-clause-entered c = λ m made more asks.
     let taken = c.take_corners.ensures.taken m (moved m made more (option_map (λ v. v.now) c.args.parent) c.args.cell c.args.kind c.args.store.now c.course-course.result c.course-course.ensures asks) (to_move m made more (option_map (λ v. v.now) c.args.parent) c.args.cell c.args.kind c.args.store.now c.course-course.result c.course-course.ensures asks) (corners_ask m made more (option_map (λ v. v.now) c.args.parent) c.args.cell c.args.kind c.args.store.now c.course-course.result c.course-course.ensures asks c.read_cell-was.new.store c.read_cell-was.result.0 c.read_cell-was.result.1 gives c.read_cell-was.ensures.others) in
     let d = decides m made more (option_map (λ v. v.now) c.args.parent) c.args.cell c.args.kind c.args.store.now c.course-course.result c.course-course.ensures asks in
     let all = are_taken m made more (option_map (λ v. v.now) c.args.parent) c.args.cell c.args.kind c.args.store.now c.course-course.result c.course-course.ensures asks c.read_cell-was.new.store c.read_cell-was.result.0 c.read_cell-was.result.1 gives c.read_cell-was.ensures.others c.take_corners.new.store c.take_corners.new.taken c.take_corners.ensures.eight taken c.take_corners.ensures.others in
-    entered m made more (option_map (λ v. v.now) c.args.parent) c.args.cell c.args.kind c.args.store.now c.course-course.result c.course-course.ensures asks c.read_cell-was.new.store c.read_cell-was.result.0 c.read_cell-was.result.1 gives c.read_cell-was.ensures.others c.take_corners.new.store c.take_corners.new.taken c.take_corners.ensures.eight taken c.take_corners.ensures.others c.take_corners.ensures.beyond _ refl refl c.first_will-view.ensures refl refl (λ plain. c.sides_here-view.ensures m d plain all) (λ plain below. c.carried_here-view.ensures.plain m.sweep d plain below)
+    entered m made more (option_map (λ v. v.now) c.args.parent) c.args.cell c.args.kind c.args.store.now c.course-course.result c.course-course.ensures asks c.read_cell-was.new.store c.read_cell-was.result.0 c.read_cell-was.result.1 gives c.read_cell-was.ensures.others c.take_corners.new.store c.take_corners.new.taken c.take_corners.ensures.eight taken c.take_corners.ensures.others c.take_corners.ensures.beyond _ refl refl c.first_will-view.ensures refl refl (λ plain. c.sides_here.ensures m d plain all) (λ plain below. c.carried_here-view.ensures.plain m.sweep d plain below)
 
 pub returns-clause-carried : goal.returns-clause-carried
 returns-clause-carried c = subst (λ x. CarriesFrom x.dim (option_map (λ v. v.now) c.args.parent) c.carried_here-view.result) c.course-course.ensures c.carried_here-view.ensures.at_home
