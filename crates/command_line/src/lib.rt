@@ -2,10 +2,12 @@
 //! accepted is defined here in words of its own, both ways.
 #![tactic(auto)]
 
+mod arguments;
 pub mod laws;
 mod reading;
 mod words;
 
+pub use arguments::words_of;
 pub use reading::read_words;
 pub use words::{ShowWhat, Words, WordsFault};
 
