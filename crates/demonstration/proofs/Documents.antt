@@ -13,10 +13,12 @@ use Rattle.grid_file.specs.declared.place.Part.TheVariants as part
 use Rattle.grid_file.specs.declared.place.KeyName.TheVariants as key
 use Rattle.grid_file.specs.Places.{place_of}
 use Rattle.grid_file.specs.declared.solver.SolverName.TheVariants.{Diffuse}
-use Rattle.grid_file.specs.Tree.{number_in, is_one_of}
+use Rattle.grid_file.specs.Tree.{number_in}
 use Rattle.grid_file.specs.Values.{corner_within, corner_from}
 use Rattle.grid_file.specs.Faults.{Check, check, first, judged}
-use Rattle.grid_file.specs.Plan.{in_each, read_each, unlisted, missing, lower_in, upper_in, fill_checks, fill_from, zone_checks, zone_from, in_tables, plan_in}
+use Rattle.grid_file.specs.Keys.{in_each, in_tables, is_among, unlisted, missing}
+use Rattle.grid_file.specs.Boxes.{read_each, lower_in, upper_in, fill_checks, fill_from, zone_checks, zone_from}
+use Rattle.grid_file.specs.Plan.{plan_in}
 use Rattle.grid_file.specs.Stages.{first_fault}
 use Rattle.grid_file.proofs.Searches.{first_append, least_is_first}
 use Rattle.demonstration.specs.Draws.{draw}
@@ -101,11 +103,11 @@ module _ (n : ℕ) where
   zones = tables (map zone_table (demo n).shape.zones)
 
   fills_listed : first 2 (in_each (unlisted part.Fill) 0 fills) ≡ None
-  unfolding is_one_of
+  unfolding is_among
   fills_listed = passes 2 (unlisted part.Fill) fill_table (fill_at n) (λ k i. refl) 0 0 12
 
   zones_listed : first 2 (in_each (unlisted part.Refine) 0 zones) ≡ None
-  unfolding is_one_of
+  unfolding is_among
   zones_listed = passes 2 (unlisted part.Refine) zone_table (zone_at n) (λ k i. refl) 0 0 8
 
   fills_whole : first 3 (in_each (missing part.Fill) 0 fills) ≡ None
@@ -128,7 +130,7 @@ module _ (n : ℕ) where
 
   -- no code applies to the document
   none_unlisted : first 2 (in_tables unlisted (document n)) ≡ None
-  unfolding is_one_of
+  unfolding is_among
   none_unlisted =
       first_append 2 (in_each (unlisted part.Fill) 0 fills) (in_each (unlisted part.Refine) 0 zones)
       ∙ (λ i. option_or (fills_listed i) (zones_listed i))

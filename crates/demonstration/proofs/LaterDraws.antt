@@ -2,7 +2,7 @@
 use Rattle.std.proofs.Common.{◌≡◌, ℕ, zero, suc, ◌+◌, ◌*◌, ◌<◌, ap, ◌∙◌, arith}
 use Rattle.std.proofs.lemmas.Nat.{mod_below}
 use Rattle.demonstration.specs.Draws.{next_number, number_after, drawn, draw}
-use Rattle.demonstration.specs.Demo.{fill_by, zone_by, fill_from, zone_from, fill_at, zone_at}
+use Rattle.demonstration.specs.Demo.{fill_by, zone_by, drawn_fill, drawn_zone, fill_at, zone_at}
 
 pub after_after : (s a b : ℕ) → number_after (number_after s a) b ≡ number_after s (a + b)
 unfolding number_after
@@ -27,9 +27,9 @@ pub draw_below : (n k bound : ℕ) → 0 < bound → draw n k bound < bound
 draw_below n k bound h = mod_below _ bound h
 
 -- the fill that the next draws make
-pub next_fill : (n i s : ℕ) → s ≡ number_after n (3 * i) → fill_from s ≡ fill_at n i
+pub next_fill : (n i s : ℕ) → s ≡ number_after n (3 * i) → drawn_fill s ≡ fill_at n i
 next_fill n i s e =
-    ap fill_from e
+    ap drawn_fill e
     ∙ (λ j. fill_by (first_after n (3 * i) 25 j) (draw_after n (3 * i) 1 25 j) (draw_after n (3 * i) 2 2001 j))
 
 pub past_fill : (n i s : ℕ) → s ≡ number_after n (3 * i) → number_after s 3 ≡ number_after n (3 * (i + 1))
@@ -38,9 +38,9 @@ past_fill n i s e =
     ap (λ (k : ℕ). number_after k 3) e ∙ after_after n (3 * i) 3 ∙ ap (number_after n) k
 
 -- and the box
-pub next_zone : (n j s : ℕ) → s ≡ number_after n (36 + 2 * j) → zone_from s ≡ zone_at n j
+pub next_zone : (n j s : ℕ) → s ≡ number_after n (36 + 2 * j) → drawn_zone s ≡ zone_at n j
 next_zone n j s e =
-    ap zone_from e
+    ap drawn_zone e
     ∙ (λ i. zone_by (first_after n (36 + 2 * j) 27 i) (draw_after n (36 + 2 * j) 1 27 i))
 
 pub past_zone : (n j s : ℕ) → s ≡ number_after n (36 + 2 * j) → number_after s 2 ≡ number_after n (36 + 2 * (j + 1))

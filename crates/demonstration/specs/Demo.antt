@@ -21,11 +21,11 @@ abbrev pub zone_by : ℕ → ℕ → Zone
 zone_by x y = record { level = 3; from = triple x y 0; to = triple (x + 1) (y + 1) 0; until = 5 }
 
 -- the fill and the box that the next draws from a number of the generator on make
-abbrev pub fill_from : ℕ → Fill
-fill_from s = fill_by (draw s 0 25) (draw s 1 25) (draw s 2 2001)
+abbrev pub drawn_fill : ℕ → Fill
+drawn_fill s = fill_by (draw s 0 25) (draw s 1 25) (draw s 2 2001)
 
-abbrev pub zone_from : ℕ → Zone
-zone_from s = zone_by (draw s 0 27) (draw s 1 27)
+abbrev pub drawn_zone : ℕ → Zone
+drawn_zone s = zone_by (draw s 0 27) (draw s 1 27)
 
 -- fill number `i`: three draws each, from the first draw on
 abbrev pub fill_at : ℕ → ℕ → Fill

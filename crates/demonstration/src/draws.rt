@@ -2,7 +2,7 @@
 ghost use Rattle.std.specs.Prelude.{◌≡◌, ◌<◌, pos, ◌-ℤ◌};
 ghost use Rattle.peano_keys.specs.declared.state.State.TheVariants.{Single};
 ghost use Rattle.demonstration.specs.Draws.{next_number, number_after, drawn};
-ghost use Rattle.demonstration.specs.Demo.{fill_from, zone_from};
+ghost use Rattle.demonstration.specs.Demo.{drawn_fill, drawn_zone};
 
 use peano_keys::State;
 use spacetree::{Fill, Zone};
@@ -49,7 +49,7 @@ impl Draws {
     // The next fill, by three draws.
     pub(crate) fn fill(&mut self) -> Fill
         ensures moved { self.new.number ≡ number_after self.old.number 3 }
-        ensures value { result ≡ fill_from self.old.number }
+        ensures value { result ≡ drawn_fill self.old.number }
     {
         let x = self.below(25);
         let y = self.below(25);
@@ -65,7 +65,7 @@ impl Draws {
     // The next box to refine, by two draws.
     pub(crate) fn zone(&mut self) -> Zone
         ensures moved { self.new.number ≡ number_after self.old.number 2 }
-        ensures value { result ≡ zone_from self.old.number }
+        ensures value { result ≡ drawn_zone self.old.number }
     {
         let x = self.below(27);
         let y = self.below(27);

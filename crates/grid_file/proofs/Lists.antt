@@ -6,7 +6,8 @@ use Rattle.toml.specs.declared.value.Value.{Value}
 use Rattle.peano_keys.specs.declared.dim.Dim.TheVariants.{Two, Three}
 use Rattle.grid_file.specs.declared.solver.SolverName.{SolverName}
 use Rattle.grid_file.specs.declared.solver.SolverName.TheVariants.{Diffuse, Advect, Wave}
-use Rattle.grid_file.specs.Values.{axes_in, values_in, are_tables, tables_within}
+use Rattle.grid_file.specs.Tree.{are_tables, tables_within}
+use Rattle.grid_file.specs.Values.{axes_in, values_in}
 use Rattle.grid_file.proofs.Trees.{count_items-view}
 
 -- fewer or more items than there are axes

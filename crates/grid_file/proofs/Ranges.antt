@@ -21,15 +21,21 @@ use Rattle.spacetree.specs.Opening.{IsFill, IsBox}
 use Rattle.grid_file.specs.declared.place.Part.{Part}
 use Rattle.grid_file.specs.declared.place.Part.TheVariants.{Document, FillList, Fill, RefineList, Refine}
 use Rattle.grid_file.specs.declared.place.KeyName.{KeyName}
-use Rattle.grid_file.specs.declared.place.KeyName.TheVariants.{Whole, Depth, Base, Steps, Level, From, To, Value, Until}
+use Rattle.grid_file.specs.declared.place.KeyName.TheVariants.{Whole, Depth, Base, Steps, Level, From, To, Value, Until, Criterion as CriterionKey, Fill as FillKey, Refine as RefineKey}
 use Rattle.grid_file.specs.declared.fault.PlanFault.{PlanFault}
 use Rattle.grid_file.specs.declared.solver.SolverName.{SolverName}
 use Rattle.grid_file.specs.declared.solver.SolverName.TheVariants.{Diffuse, Advect, Wave}
 use Rattle.grid_file.specs.declared.plan.Plan.{Plan}
-use Rattle.grid_file.specs.Tree.{whole_in, number_in}
+use Rattle.grid_file.specs.declared.limits.TheConstants.{DEEPEST, MOST_STEPS}
+use Rattle.grid_file.specs.declared.solver.Rates.{Rates}
+use Rattle.grid_file.specs.Tree.{whole_in, number_in, number_or, items_at, table_at, list_in}
 use Rattle.grid_file.specs.Faults.{Check, first, Gives}
-use Rattle.grid_file.specs.Values.{number_or, items_at, parts_of, corner_from, corner_within, from_in, to_in, beyond, single_from, pair_from, values_in, state_in, list_in, table_at}
-use Rattle.grid_file.specs.Plan.{at_key, key_check, in_table, in_each, put_before, read_each, list_checks, listed, fill_at, refine_at, depth_in, depth_of, base_in, base_of, steps_in, steps_of, dim_of, solver_of, level_in, level_of, lower_in, lower_of, upper_in, upper_of, box_checks, fill_checks, fill_from, until_in, zone_checks, zone_from, criterion_at, criterion_from, solver_from, plan_from, plan_in}
+use Rattle.grid_file.specs.Values.{parts_of, corner_from, corner_within, from_in, to_in, beyond, single_from, pair_from, values_in, state_in}
+use Rattle.grid_file.specs.Keys.{at_key, key_check, in_table, in_each, listed}
+use Rattle.grid_file.specs.Head.{depth_in, depth_of, base_in, base_of, dim_of, solver_of}
+use Rattle.grid_file.specs.Solvers.{criterion_from, solver_from}
+use Rattle.grid_file.specs.Boxes.{put_before, read_each, list_checks, level_in, level_of, lower_in, lower_of, upper_in, upper_of, box_checks, fill_checks, fill_from, until_in, zone_checks, zone_from}
+use Rattle.grid_file.specs.Plan.{steps_in, steps_of, plan_from, plan_in}
 use Rattle.grid_file.specs.Stages.{head_fault, tail_fault, body_fault, first_fault}
 use Rattle.grid_file.specs.Valid.{IsPlan}
 use Rattle.grid_file.proofs.Searches.{first_append}
@@ -148,7 +154,7 @@ box_range code dim depth part n t cs h =
       key_rest code part n To (upper_in dim level from t) cs after_from,
     )
 
-box_served : (dim : dims.Dim) (depth : ℕ) (b : filled.Fill) → depth ≤ 8 → IsBoxOf dim depth b.level b.from b.to → IsBox b
+box_served : (dim : dims.Dim) (depth : ℕ) (b : filled.Fill) → depth ≤ DEEPEST → IsBoxOf dim depth b.level b.from b.to → IsBox b
 box_served dim depth b deep box = record {
   level = omega (arith, deep, box.top);
   first = box.high.first.1;
@@ -190,7 +196,7 @@ state_range solver o = and_then_range (HasParts (parts_of solver)) (values_in so
 
 -- fills, and boxes to refine
 
-fill_range : (dim : dims.Dim) (depth : ℕ) (solver : SolverName) → depth ≤ 8 → (n : ℕ) (t : Members) → first 10 (fill_checks dim depth solver n t) ≡ None → IsFill (parts_of solver) (fill_from dim depth solver t)
+fill_range : (dim : dims.Dim) (depth : ℕ) (solver : SolverName) → depth ≤ DEEPEST → (n : ℕ) (t : Members) → first 10 (fill_checks dim depth solver n t) ≡ None → IsFill (parts_of solver) (fill_from dim depth solver t)
 fill_range dim depth solver deep n t h =
     let box = box_range 10 dim depth Fill n t (key_check Fill n Value (state_in solver (at_key Value t)) ∷ []) h in
     record {
@@ -229,15 +235,15 @@ list_range P code part checks read each d h = each_range P code checks read each
 
 -- the solver
 
-solver_parts : (s : SolverName) (dim : dims.Dim) (a b : ℤ) (wind : List ℤ) (edge : EdgeRule) (watch : Option Criterion) → parts_in (solver_from s dim a b wind edge watch) ≡ parts_of s
-solver_parts Diffuse dim a b wind edge watch = refl
-solver_parts Advect dim a b wind edge watch = refl
-solver_parts Wave dim a b wind edge watch = refl
+solver_parts : (s : SolverName) (dim : dims.Dim) (r : Rates) (edge : EdgeRule) (watch : Option Criterion) → parts_in (solver_from s dim r edge watch) ≡ parts_of s
+solver_parts Diffuse dim r edge watch = refl
+solver_parts Advect dim r edge watch = refl
+solver_parts Wave dim r edge watch = refl
 
-solver_deepest : (s : SolverName) (dim : dims.Dim) (a b : ℤ) (wind : List ℤ) (edge : EdgeRule) (watch : Option Criterion) → deepest_in (solver_from s dim a b wind edge watch) ≡ watched_depth watch
-solver_deepest Diffuse dim a b wind edge watch = refl
-solver_deepest Advect dim a b wind edge watch = refl
-solver_deepest Wave dim a b wind edge watch = refl
+solver_deepest : (s : SolverName) (dim : dims.Dim) (r : Rates) (edge : EdgeRule) (watch : Option Criterion) → deepest_in (solver_from s dim r edge watch) ≡ watched_depth watch
+solver_deepest Diffuse dim r edge watch = refl
+solver_deepest Advect dim r edge watch = refl
+solver_deepest Wave dim r edge watch = refl
 
 watch_range : (depth : ℕ) (s : SolverName) (o : Option Members) → watched_depth (criterion_from depth s o) ≤ depth
 watch_range depth s (Some c) = omega arith
@@ -245,11 +251,11 @@ watch_range depth s None = omega arith
 
 -- the document
 
-depth_range : (t : Members) → head_fault t ≡ None → depth_of t ≤ 8
+depth_range : (t : Members) → head_fault t ≡ None → depth_of t ≤ DEEPEST
 depth_range t h =
     let dim = both_none _ _ h in
     let depth = both_none _ _ dim.1 in
-    (key_range (IsBetween 0 8) 5 Document 0 Depth (depth_in t) 0 [] (number_range 0 8 (at_key Depth t)) depth.0).1
+    (key_range (IsBetween 0 DEEPEST) 5 Document 0 Depth (depth_in t) 0 [] (number_range 0 DEEPEST (at_key Depth t)) depth.0).1
 
 base_range : (t : Members) → head_fault t ≡ None → base_of (depth_of t) t ≤ depth_of t
 base_range t h =
@@ -258,22 +264,22 @@ base_range t h =
     let base = both_none _ _ depth.1 in
     (key_range (IsBetween 0 (depth_of t)) 6 Document 0 Base (base_in (depth_of t) t) 0 [] (number_range 0 (depth_of t) (at_key Base t)) base.0).1
 
-steps_range : (solver : SolverName) (t : Members) → tail_fault solver t ≡ None → steps_of t ≤ 10000
+steps_range : (solver : SolverName) (t : Members) → tail_fault solver t ≡ None → steps_of t ≤ MOST_STEPS
 steps_range solver t h =
     let edge = both_none _ _ h in
     let steps = both_none _ _ edge.1 in
-    (key_range (IsBetween 0 10000) 13 Document 0 Steps (steps_in t) 0 [] (number_range 0 10000 (at_key Steps t)) steps.0).1
+    (key_range (IsBetween 0 MOST_STEPS) 13 Document 0 Steps (steps_in t) 0 [] (number_range 0 MOST_STEPS (at_key Steps t)) steps.0).1
 
 parts_range : (dim : dims.Dim) (depth : ℕ) (solver : SolverName) (t : Members) → parts_in (plan_from dim depth solver t).solver ≡ parts_of solver
-parts_range dim depth solver t = solver_parts solver dim _ _ _ _ _
+parts_range dim depth solver t = solver_parts solver dim _ _ _
 
 deepest_range : (dim : dims.Dim) (depth : ℕ) (solver : SolverName) (t : Members) → deepest_in (plan_from dim depth solver t).solver ≤ depth
-deepest_range dim depth solver t = subst (λ n. n ≤ depth) (sym (solver_deepest solver dim _ _ _ _ _)) (watch_range depth solver (table_at (criterion_at t)))
+deepest_range dim depth solver t = subst (λ n. n ≤ depth) (sym (solver_deepest solver dim _ _ _)) (watch_range depth solver (table_at (at_key CriterionKey t)))
 
-deep_served : (depth : ℕ) → depth ≤ 8 → depth ≤ 12
+deep_served : (depth : ℕ) → depth ≤ DEEPEST → depth ≤ 12
 deep_served depth deep = omega (arith, deep)
 
-body_range : (dim : dims.Dim) (depth : ℕ) (solver : SolverName) (t : Members) → depth ≤ 8 → base_of depth t ≤ depth → body_fault dim depth solver t ≡ None → IsPlan (plan_from dim depth solver t)
+body_range : (dim : dims.Dim) (depth : ℕ) (solver : SolverName) (t : Members) → depth ≤ DEEPEST → base_of depth t ≤ depth → body_fault dim depth solver t ≡ None → IsPlan (plan_from dim depth solver t)
 body_range dim depth solver t deep base h =
     let rates = both_none _ _ h in
     let criterion = both_none _ _ rates.1 in
@@ -283,10 +289,10 @@ body_range dim depth solver t deep base h =
       shape = record {
         depth = deep_served depth deep;
         base = base;
-        zones = list_range (IsZone dim depth) 11 RefineList (zone_checks dim depth) (zone_from dim depth) (zone_range dim depth) (refine_at t) zones.0;
+        zones = list_range (IsZone dim depth) 11 RefineList (zone_checks dim depth) (zone_from dim depth) (zone_range dim depth) (at_key RefineKey t) zones.0;
       };
       depth = deep;
-      fills = subst (λ parts. All (IsFill parts) (read_each (fill_from dim depth solver) (listed (fill_at t)))) (sym (parts_range dim depth solver t)) (list_range (IsFill (parts_of solver)) 10 FillList (fill_checks dim depth solver) (fill_from dim depth solver) (fill_range dim depth solver deep) (fill_at t) fills.0);
+      fills = subst (λ parts. All (IsFill parts) (read_each (fill_from dim depth solver) (listed (at_key FillKey t)))) (sym (parts_range dim depth solver t)) (list_range (IsFill (parts_of solver)) 10 FillList (fill_checks dim depth solver) (fill_from dim depth solver) (fill_range dim depth solver deep) (at_key FillKey t) fills.0);
       deepest = deepest_range dim depth solver t;
       steps = steps_range solver t zones.1;
     }

@@ -8,10 +8,9 @@ use Rattle.grid_file.specs.declared.fault.PlanFault.{PlanFault}
 use Rattle.grid_file.specs.declared.plan.Plan.{Plan}
 use Rattle.grid_file.specs.Faults.{Check, Fault, Step, first, first_in, malformed, coded, faults_of, least, lesser, judged, Gives, Reads}
 use Rattle.toml.specs.Data.{Members}
-use Rattle.grid_file.specs.declared.place.Part.TheVariants.{Document}
-use Rattle.grid_file.specs.declared.place.KeyName.TheVariants.{Dim, Depth, Base}
-use Rattle.grid_file.specs.Values.{dim_in}
-use Rattle.grid_file.specs.Plan.{at_key, key_check, in_tables, unlisted, missing, depth_in, base_in, solver_checks, dim_of, depth_of, solver_of, steps, faults, plan_in}
+use Rattle.grid_file.specs.Keys.{in_tables, unlisted, missing}
+use Rattle.grid_file.specs.Head.{dim_checks, depth_checks, base_checks, solver_checks, dim_of, depth_of, solver_of}
+use Rattle.grid_file.specs.Plan.{steps, faults, plan_in}
 use Rattle.grid_file.specs.Stages.{first_fault, body_fault}
 
 pub first_append : (code : ℕ) (a b : List Check) → first code (a ++ b) ≡ option_or (first code a) (first code b)
@@ -99,7 +98,7 @@ pub least_is_first : (t : Members) → least (faults t) ≡ first_fault t
 least_is_first t =
     least_rising 0 (steps (dim_of t) (depth_of t) (solver_of t) t) refl
     ∙ ap (λ o. option_or (first 2 (in_tables unlisted t)) (option_or (first 3 (in_tables missing t)) o))
-    (four_before (first 4 (key_check Document 0 Dim (dim_in (at_key Dim t)) ∷ [])) (first 5 (key_check Document 0 Depth (depth_in t) ∷ [])) (first 6 (key_check Document 0 Base (base_in (depth_of t) t) ∷ [])) (first 7 (solver_checks t)) (body_fault (dim_of t) (depth_of t) (solver_of t) t))
+    (four_before (first 4 (dim_checks t)) (first 5 (depth_checks t)) (first 6 (base_checks (depth_of t) t)) (first 7 (solver_checks t)) (body_fault (dim_of t) (depth_of t) (solver_of t) t))
 
 -- what a document gives by the first fault, it gives by the least
 pub reads_least : (t : Members) (r : Result Plan PlanFault) → Gives r (first_fault t) (plan_in t) → Reads r (judged (least (faults t)) (plan_in t))

@@ -8,7 +8,8 @@ use Rattle.toml.specs.declared.value.Value.{Value}
 use Rattle.grid_file.specs.declared.fault.Malformed.{Malformed}
 use Rattle.grid_file.specs.declared.fault.PlanFault.{PlanFault}
 use Rattle.grid_file.specs.Faults.{Check, first, IsFault}
-use Rattle.grid_file.specs.Plan.{in_table, in_each, put_before, read_each}
+use Rattle.grid_file.specs.Keys.{in_table, in_each}
+use Rattle.grid_file.specs.Boxes.{put_before, read_each}
 use Rattle.grid_file.proofs.Searches.{first_append}
 
 -- the items from one on

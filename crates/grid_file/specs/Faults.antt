@@ -16,9 +16,11 @@ pub record Fault : Type 0 where
   pub malformed : Malformed
   pub applies : Bool
 
+-- a place with what is refused there
 abbrev pub check : Place → Bool → Check
 check place refused = record { place = place; refused = refused }
 
+-- a code at a place
 abbrev pub malformed : ℕ → Place → Malformed
 malformed code place = record { code = code; place = place }
 
@@ -32,6 +34,7 @@ pub record Step : Type 0 where
   pub code : ℕ
   pub checks : List Check
 
+-- a code with its checks
 abbrev pub step : ℕ → List Check → Step
 step code checks = record { code = code; checks = checks }
 
@@ -66,18 +69,19 @@ judged None value = Ok value
 judged (Some m) value = Err m
 
 -- a refusal is the one that is said; want of memory may come at any time
-abbrev pub Refuses : {T : Type 0} → PlanFault → Result T Malformed → Type 0
-Refuses fault said = (m : Malformed) → fault ≡ Refused m → said ≡ Err m
+abbrev pub IsRefusal : {T : Type 0} → PlanFault → Result T Malformed → Type 0
+IsRefusal fault said = (m : Malformed) → fault ≡ Refused m → said ≡ Err m
 
 -- what is returned is what is said, unless memory ran out
 abbrev pub Reads : {T : Type 0} → Result T PlanFault → Result T Malformed → Type 0
 Reads (Ok value) said = said ≡ Ok value
-Reads (Err fault) said = Refuses fault said
+Reads (Err fault) said = IsRefusal fault said
 
--- the same of one part of a file: a refusal that it may get, and its value where it gets none
+-- a refusal of one part of a file is the one that it may get
 abbrev pub IsFault : PlanFault → Option Malformed → Type 0
 IsFault fault said = (m : Malformed) → fault ≡ Refused m → said ≡ Some m
 
+-- a part of a file gives its value where nothing is refused, else the refusal, unless memory ran out
 abbrev pub Gives : {T : Type 0} → Result T PlanFault → Option Malformed → T → Type 0
 Gives (Ok v) said value = (said ≡ None) × (value ≡ v)
 Gives (Err fault) said value = IsFault fault said

@@ -1,7 +1,11 @@
-pub mod Tree
 pub mod Places
 pub mod Faults
+pub mod Tree
 pub mod Values
+pub mod Keys
+pub mod Head
+pub mod Solvers
+pub mod Boxes
 pub mod Plan
 pub mod Stages
 pub mod Valid

@@ -1,8 +1,9 @@
 //! Why a file gives no plan.
 ghost use Rattle.std.specs.Prelude.{◌≡◌};
 ghost use Rattle.grid_file.specs.Faults.{malformed};
+ghost use Rattle.grid_file.specs.Places.{place_of};
 
-use crate::place::Place;
+use crate::place::{KeyName, Part, Place};
 use std::alloc::{AllocError, AllocFailed};
 use thiserror::Error;
 
@@ -11,6 +12,18 @@ use thiserror::Error;
 pub struct Malformed {
     pub code: u8,
     pub place: Place,
+}
+
+impl Malformed {
+    // A code at a key of a part, or at the whole of it.
+    pub(crate) fn at(code: u8, part: Part, index: u32, key: KeyName) -> Malformed
+        ensures { result ≡ malformed code (place_of part index key) }
+    {
+        Malformed {
+            code,
+            place: Place { part, index, key },
+        }
+    }
 }
 
 /// Why a file gives no plan: it is malformed, or memory ran out.
@@ -42,9 +55,9 @@ impl<T: Drop> From<AllocFailed<T>> for PlanFault {
     }
 }
 
-// The refusal of a place.
-pub(crate) fn refused(code: u8, place: Place) -> PlanFault
-    ensures { result ≡ PlanFault.Malformed (malformed code place) }
+// The refusal of it.
+pub(crate) fn refused(code: u8, part: Part, index: u32, key: KeyName) -> PlanFault
+    ensures { result ≡ PlanFault.Malformed (malformed code (place_of part index key)) }
 {
-    PlanFault::Malformed(Malformed { code, place })
+    PlanFault::Malformed(Malformed::at(code, part, index, key))
 }

@@ -1,6 +1,6 @@
 //! Keys of a file, and the places that a refusal names.
 ghost use Rattle.std.specs.Prelude.{◌≡◌, ◌≤◌, length};
-ghost use Rattle.grid_file.specs.Places.{spelled};
+ghost use Rattle.grid_file.specs.Places.{spelled, part_name};
 
 /// A part of a file: the document, its criterion, one of its two lists, or a table of a list.
 #[derive(Clone, Copy, Debug, PartialEq, Eq)]
@@ -37,6 +37,9 @@ pub enum KeyName {
     To,
     Value,
     Until,
+    Criterion,
+    Fill,
+    Refine,
 }
 
 /// Where something is refused: a part, a key of it or the whole, and for a table of a list its number from 0.
@@ -75,5 +78,21 @@ pub(crate) fn spelled(key: KeyName) -> &'static str
         KeyName::To => "to",
         KeyName::Value => "value",
         KeyName::Until => "until",
+        KeyName::Criterion => "criterion",
+        KeyName::Fill => "fill",
+        KeyName::Refine => "refine",
+    }
+}
+
+// The name of a part.
+pub(crate) fn part_name(part: Part) -> &'static str
+    ensures value { result.now ≡ part_name part }
+    ensures short { length result.now ≤ 9 }
+{
+    match part {
+        Part::Document => "document",
+        Part::Criterion => spelled(KeyName::Criterion),
+        Part::FillList | Part::Fill => spelled(KeyName::Fill),
+        Part::RefineList | Part::Refine => spelled(KeyName::Refine),
     }
 }

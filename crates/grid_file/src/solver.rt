@@ -2,7 +2,7 @@
 ghost use Rattle.std.specs.Prelude.{◌≡◌, IfSome};
 ghost use Rattle.volume_solver.specs.Ranges.{IsFactor, IsDivisor, IsWind, EdgeHas, IsCriterion};
 ghost use Rattle.grid_file.specs.Values.{parts_of};
-ghost use Rattle.grid_file.specs.Plan.{solver_from};
+ghost use Rattle.grid_file.specs.Solvers.{solver_from};
 
 use peano_keys::Dim;
 use solver_api::Criterion;
@@ -37,7 +37,7 @@ pub fn named(
     requires wind { IsWind rates.wind }
     requires edge { EdgeHas (parts_of name) edge }
     requires watch { IfSome watch (IsCriterion (parts_of name)) }
-    ensures { result ≡ solver_from name dim rates.a rates.b rates.wind edge watch }
+    ensures { result ≡ solver_from name dim rates edge watch }
 {
     match name {
         SolverName::Diffuse => AnySolver::Diffuse(Diffuse::new(dim, rates.a, rates.b, edge, watch)),

@@ -4,6 +4,7 @@ use peano_keys::{Dim, State};
 use solver_api::Solver;
 use spacetree::{Fill, Zone};
 use std::alloc::{AllocError, Global};
+use std::process::Abort;
 use std::test::Fail;
 use volume_solver::AnySolver;
 
@@ -44,123 +45,117 @@ fn said(alloc: Global, text: &[u8]) -> Result<String, AllocError> {
     Ok(said)
 }
 
+// The pulse with each of these pieces of text changed, and how it is refused.
+fn expect_refused(
+    rt: &impl Abort,
+    alloc: Global,
+    rows: &[(&str, &str, &str)],
+) -> Result<(), AllocError> {
+    for (old, new, want) in rows {
+        let text = changed(alloc, old, new)?;
+        let said = said(alloc, text.as_bytes())?;
+        assert_eq!(rt; said.as_str(), *want, "with {new}");
+    }
+    Ok(())
+}
+
 #[test]
-fn a_changed_file_is_refused_where_it_was_changed(rt: HostRuntime) -> Result<(), Fail> {
+fn no_document(rt: HostRuntime) -> Result<(), Fail> {
     let alloc = rt.alloc();
-    for (old, new, want) in [
+    assert_eq!(rt; said(alloc, b"\xff\xfe")?.as_str(), "1 at document");
+    assert_eq!(rt; said(alloc, b"")?.as_str(), "3 at dim");
+    let rows = [
         ("steps = 1\n", "steps = 1\ndim = 2\n", "1 at document"),
         ("100", "9223372036854775808", "1 at document"),
-        ("steps = 1\n", "steps = 1\nsize = 3\n", "2 at document"),
+    ];
+    expect_refused(&rt, alloc, &rows)?;
+    Ok(())
+}
+
+#[test]
+fn changed_values_of_the_document(rt: HostRuntime) -> Result<(), Fail> {
+    let rows = [
         ("dim = 2\n", "size = 3\n", "2 at document"),
         ("b = 90\nsteps = 1\n", "", "3 at b"),
-        ("value = [100]\n", "", "3 at fill 0 value"),
-        (
-            HEAD,
-            "dim = 4\ndepth = 1\nbase = 1\nsolver = \"diffuse\"\na = 1\nb = 90\nsteps = -1\n",
-            "4 at dim",
-        ),
         ("dim = 2", "dim = \"2\"", "4 at dim"),
         ("dim = 2", "dim = 2.0", "4 at dim"),
         ("dim = 2", "dim = true", "4 at dim"),
+        ("dim = 2", "dim = 4\nprint_every = 0", "4 at dim"),
         ("depth = 1", "depth = 9", "5 at depth"),
         ("base = 1", "base = 2", "6 at base"),
         ("diffuse", "heat", "7 at solver"),
         ("a = 1\n", "", "7 at a"),
-        ("steps = 1", "steps = 1\nwind = [1, 0]", "7 at wind"),
-        ("steps = 1", "steps = 1\nwind = 5", "7 at wind"),
         ("a = 1\n", "version = 2\n", "7 at a"),
-        ("steps = 1", "steps = 1\nversion = 2", "8 at version"),
         ("a = 1\n", "a = 1000001\n", "8 at a"),
         ("b = 90", "b = 0", "8 at b"),
         ("b = 90", "b = 1000000000000000001", "8 at b"),
-        ("steps = 1", "steps = 1\ncriterion = 5", "9 at criterion"),
+        ("steps = 1", "steps = -1", "13 at steps"),
+        ("steps = 1", "steps = 10001", "13 at steps"),
+    ];
+    expect_refused(&rt, rt.alloc(), &rows)?;
+    Ok(())
+}
+
+#[test]
+fn keys_added_to_the_document(rt: HostRuntime) -> Result<(), Fail> {
+    for (lines, want) in [
+        ("size = 3\n", "2 at document"),
+        ("wind = [1, 0]\n", "7 at wind"),
+        ("wind = 5\n", "7 at wind"),
+        ("version = 2\n", "8 at version"),
+        ("criterion = 5\n", "9 at criterion"),
+        ("[[criterion]]\nhi = 5\nlo = 1\n", "9 at criterion"),
+        ("[criterion]\nhi = 5\n", "3 at criterion lo"),
+        ("[criterion]\nhi = 5\nlo = 6\n", "9 at criterion lo"),
+        ("[criterion]\nhi = 0\nlo = 0\n", "9 at criterion hi"),
         (
-            "steps = 1\n",
-            "steps = 1\n[[criterion]]\nhi = 5\nlo = 1\n",
-            "9 at criterion",
-        ),
-        (
-            "steps = 1\n",
-            "steps = 1\n[criterion]\nhi = 5\n",
-            "3 at criterion lo",
-        ),
-        (
-            "steps = 1\n",
-            "steps = 1\n[criterion]\nhi = 5\nlo = 6\n",
-            "9 at criterion lo",
-        ),
-        (
-            "steps = 1\n",
-            "steps = 1\n[criterion]\nhi = 0\nlo = 0\n",
-            "9 at criterion hi",
-        ),
-        (
-            "steps = 1\n",
-            "steps = 1\n[criterion]\nhi = 5\nlo = 5\nwatch = 1\n",
+            "criterion = { hi = 5, lo = 5, watch = 1 }\n",
             "9 at criterion watch",
         ),
+        ("edge = \"fixed\"\n", "12 at edge_value"),
+        ("edge = 3\nedge_value = 5\n", "12 at edge"),
+        ("edge_value = [0]\n", "12 at edge_value"),
+        ("print_every = 0\n", "14 at print_every"),
+        ("print_every = 10001\n", "14 at print_every"),
+    ] {
+        let alloc = rt.alloc();
+        let more = format!(in alloc; "steps = 1\n{lines}")?;
+        expect_refused(&rt, alloc, &[("steps = 1\n", more.as_str(), want)])?;
+    }
+    Ok(())
+}
+
+#[test]
+fn changed_values_of_a_fill(rt: HostRuntime) -> Result<(), Fail> {
+    let rows = [
+        ("value = [100]\n", "", "3 at fill 0 value"),
         ("[[fill]]", "[fill]", "10 at fill"),
         ("[[fill]]\n", "[[fill.x]]\n", "10 at fill"),
-        ("[100]\n", "[100]\n[fill.size]\n", "2 at fill 0"),
-        (
-            "[100]\n",
-            "[100]\n[[fill]]\nlevel = 0\nfrom = [0, 0]\nto = [1, 1]\n",
-            "3 at fill 1 value",
-        ),
         ("level = 1", "level = 2", "10 at fill 0 level"),
         ("from = [1, 1]", "from = [1, 3]", "10 at fill 0 from"),
         ("from = [1, 1]", "from = [1, 1, 1]", "10 at fill 0 from"),
         ("to = [2, 2]", "to = [1, 2]", "10 at fill 0 to"),
         ("to = [2, 2]", "to = [2, 4]", "10 at fill 0 to"),
         ("value = [100]", "value = [100, 0]", "10 at fill 0 value"),
-        (
-            "[100]\n",
-            "[100]\n[[refine]]\nlevel = 1\nfrom = [1, 1]\nto = [2, 2]\nuntil = 2\n",
-            "11 at refine 0 until",
-        ),
-        (
-            "[100]\n",
-            "[100]\n[[refine]]\nlevel = 1\nfrom = [1, 1]\nto = [2, 2]\nuntil = 0\n",
-            "11 at refine 0 until",
-        ),
-        (
-            "[100]\n",
-            "[100]\n[[refine]]\nlevel = 1\nfrom = [1, 1]\nto = [2, 2]\nvalue = [1]\n",
-            "2 at refine 0",
-        ),
-        (
-            "steps = 1",
-            "steps = 1\nedge = \"fixed\"",
-            "12 at edge_value",
-        ),
-        (
-            "steps = 1",
-            "steps = 1\nedge = 3\nedge_value = 5",
-            "12 at edge",
-        ),
-        (
-            "steps = 1",
-            "steps = 1\nedge_value = [0]",
-            "12 at edge_value",
-        ),
-        ("steps = 1", "steps = 10001", "13 at steps"),
-        (
-            "steps = 1",
-            "steps = 1\nprint_every = 0",
-            "14 at print_every",
-        ),
-        (
-            "steps = 1",
-            "steps = 1\nprint_every = 10001",
-            "14 at print_every",
-        ),
+    ];
+    expect_refused(&rt, rt.alloc(), &rows)?;
+    Ok(())
+}
+
+#[test]
+fn tables_added_to_a_list(rt: HostRuntime) -> Result<(), Fail> {
+    let corners = "from = [1, 1]\nto = [2, 2]";
+    for (table, rest, want) in [
+        ("[fill.size]", "", "2 at fill 0"),
+        ("[[fill]]", "", "3 at fill 1 value"),
+        ("[[refine]]", "until = 2", "11 at refine 0 until"),
+        ("[[refine]]", "until = 0", "11 at refine 0 until"),
+        ("[[refine]]", "value = [1]", "2 at refine 0"),
     ] {
-        let text = changed(alloc, old, new)?;
-        let said = said(alloc, text.as_bytes())?;
-        assert_eq!(rt; said.as_str(), want, "with {new}");
+        let alloc = rt.alloc();
+        let more = format!(in alloc; "[100]\n{table}\nlevel = 1\n{corners}\n{rest}\n")?;
+        expect_refused(&rt, alloc, &[("[100]\n", more.as_str(), want)])?;
     }
-    assert_eq!(rt; said(alloc, b"\xff\xfe")?.as_str(), "1 at document");
-    assert_eq!(rt; said(alloc, b"")?.as_str(), "3 at dim");
     Ok(())
 }
 

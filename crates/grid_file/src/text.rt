@@ -1,9 +1,8 @@
 //! The text of a place, in a fixed array.
 ghost use Rattle.std.specs.Prelude.{◌≡◌, ◌+◌, ◌≤◌, ◌++◌, ◌∷◌, [], length};
-ghost use Rattle.std.specs.Fmt.{decimal};
-ghost use Rattle.grid_file.specs.Places.{text_of, with_key, bare_key};
+ghost use Rattle.grid_file.specs.Places.{place_text, numbered, with_key, bare_key};
 
-use crate::place::{KeyName, Part, Place, spelled};
+use crate::place::{KeyName, Part, Place, part_name, spelled};
 use itoa::Buffer;
 use std::marker::Model;
 
@@ -54,21 +53,22 @@ impl PlaceText {
         text
     }
 
-    // A word and a number.
+    // A number behind a word.
     fn numbered(word: &str, index: u32) -> PlaceText
-        requires { length word.now ≤ 7 }
-        ensures value { result ≡ word.now ++ decimal index }
-        ensures short { length result ≤ 17 }
+        requires { length word.now ≤ 9 }
+        ensures value { result ≡ numbered word.now index }
+        ensures short { length result ≤ 20 }
     {
         let mut buffer = Buffer::new();
         let mut text = PlaceText::word(word);
+        text.push_word(" ");
         text.push_word(buffer.format(index));
         text
     }
 
     // A key behind the name of its part.
     fn with_key(mut self, key: KeyName) -> PlaceText
-        requires { length self ≤ 17 }
+        requires { length self ≤ 20 }
         ensures { result ≡ with_key self key }
     {
         if key != KeyName::Whole {
@@ -102,7 +102,7 @@ fn bare_key(key: KeyName) -> &'static str
     ensures short { length result.now ≤ 11 }
 {
     match key {
-        KeyName::Whole => "document",
+        KeyName::Whole => part_name(Part::Document),
         _ => spelled(key),
     }
 }
@@ -110,14 +110,15 @@ fn bare_key(key: KeyName) -> &'static str
 /// The text of a place: `document`, or a key of the document; `criterion` or `criterion hi`; `fill` for the list of fills,
 /// `fill 2` for its third table, `fill 2 value` for a key of that; `refine` alike.
 pub fn place_text(place: &Place) -> PlaceText
-    ensures { result ≡ text_of place.now }
+    ensures { result ≡ place_text place.now }
 {
+    let name = part_name(place.part);
     match place.part {
         Part::Document => PlaceText::word(bare_key(place.key)),
-        Part::Criterion => PlaceText::word("criterion").with_key(place.key),
-        Part::FillList => PlaceText::word("fill"),
-        Part::Fill => PlaceText::numbered("fill ", place.index).with_key(place.key),
-        Part::RefineList => PlaceText::word("refine"),
-        Part::Refine => PlaceText::numbered("refine ", place.index).with_key(place.key),
+        Part::Criterion => PlaceText::word(name).with_key(place.key),
+        Part::FillList => PlaceText::word(name),
+        Part::Fill => PlaceText::numbered(name, place.index).with_key(place.key),
+        Part::RefineList => PlaceText::word(name),
+        Part::Refine => PlaceText::numbered(name, place.index).with_key(place.key),
     }
 }

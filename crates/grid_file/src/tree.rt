@@ -1,10 +1,9 @@
 //! What stands in a document: its tree, numbers in a range, texts, tables and lists.
 ghost use Rattle.std.specs.Prelude.{◌≡◌, ◌≤◌, IfOk, IfSome, length, option_map, option_copied};
-ghost use Rattle.toml.specs.Data.{get_member};
 ghost use Rattle.toml.specs.View.{view, table_view, items_view};
-ghost use Rattle.grid_file.specs.Tree.{tree_of, whole_in, number_in};
-ghost use Rattle.grid_file.specs.Values.{number_or, items_at, text_at, table_at, are_tables, tables_within, list_in};
+ghost use Rattle.grid_file.specs.Tree.{tree_of, seen, whole_in, number_in, number_or, items_at, string_at, table_at, are_tables, tables_within, list_in};
 
+use crate::limits::MOST_TABLES;
 use std::alloc::{AllocError, Global};
 use toml::{Table, Value};
 
@@ -24,13 +23,6 @@ pub fn tree(alloc: Global, text: &[u8]) -> Result<Option<Table>, AllocError>
     }
 }
 
-// What stands at a key.
-pub fn entry<'a>(table: &'a Table, key: &str) -> Option<&'a Value>
-    ensures { option_map (λ v. view v.now) result ≡ get_member key.now (table_view table.now) }
-{
-    table.get(key)
-}
-
 // The number itself where it is a whole one in a range.
 fn whole(z: i64, low: u64, high: u64) -> Option<u64>
     ensures value { result ≡ whole_in low high z }
@@ -43,7 +35,7 @@ fn whole(z: i64, low: u64, high: u64) -> Option<u64>
 
 // An integer in a range.
 pub fn number(found: Option<&Value>, low: u64, high: u64) -> Option<u64>
-    ensures value { result ≡ number_in low high (option_map (λ v. view v.now) found.entry) }
+    ensures value { result ≡ number_in low high (seen found.entry) }
     ensures least { IfSome result (λ n. low ≤ n) }
     ensures most { IfSome result (λ n. n ≤ high) }
 {
@@ -58,7 +50,7 @@ pub fn number(found: Option<&Value>, low: u64, high: u64) -> Option<u64>
 
 // The items, where what stands there is an array.
 pub fn items<'a>(found: Option<&'a Value>) -> Option<&'a [Value]>
-    ensures { option_map (λ s. items_view s.now) result ≡ items_at (option_map (λ v. view v.now) found.entry) }
+    ensures { option_map (λ s. items_view s.now) result ≡ items_at (seen found.entry) }
 {
     match found?.as_array() {
         None => None,
@@ -68,14 +60,14 @@ pub fn items<'a>(found: Option<&'a Value>) -> Option<&'a [Value]>
 
 // The text, where what stands there is one.
 pub fn text<'a>(found: Option<&'a Value>) -> Option<&'a str>
-    ensures { option_copied result ≡ text_at (option_map (λ v. view v.now) found.entry) }
+    ensures { option_copied result ≡ string_at (seen found.entry) }
 {
     found?.as_str()
 }
 
 // The table, where what stands there is one.
 pub fn table<'a>(found: Option<&'a Value>) -> Option<&'a Table>
-    ensures { option_map (λ t. table_view t.now) result ≡ table_at (option_map (λ v. view v.now) found.entry) }
+    ensures { option_map (λ t. table_view t.now) result ≡ table_at (seen found.entry) }
 {
     found?.as_table()
 }
@@ -83,7 +75,7 @@ pub fn table<'a>(found: Option<&'a Value>) -> Option<&'a Table>
 // An integer in a range, or another number where the key is absent.
 pub fn number_or(default: u64, low: u64, high: u64, found: Option<&Value>) -> Option<u64>
     requires { default ≤ high }
-    ensures value { result ≡ number_or default low high (option_map (λ v. view v.now) found.entry) }
+    ensures value { result ≡ number_or default low high (seen found.entry) }
     ensures most { IfSome result (λ n. n ≤ high) }
 {
     match found {
@@ -107,9 +99,9 @@ fn are_tables(items: &[Value]) -> bool
 // At most a thousand items, each a table.
 fn tables_within<'a>(items: &'a [Value]) -> Option<&'a [Value]>
     ensures value { option_map (λ s. items_view s.now) result ≡ tables_within (items_view items.now) }
-    ensures few { IfSome result (λ s. length s.now ≤ 1000) }
+    ensures few { IfSome result (λ s. length s.now ≤ MOST_TABLES) }
 {
-    if items.len() > 1000 {
+    if items.len() > MOST_TABLES {
         return None;
     }
     if !are_tables(items) {
@@ -120,8 +112,8 @@ fn tables_within<'a>(items: &'a [Value]) -> Option<&'a [Value]>
 
 // The items of a list: none where it is absent, else at most a thousand tables.
 pub fn list<'a>(found: Option<&'a Value>) -> Option<&'a [Value]>
-    ensures value { option_map (λ s. items_view s.now) result ≡ list_in (option_map (λ v. view v.now) found.entry) }
-    ensures few { IfSome result (λ s. length s.now ≤ 1000) }
+    ensures value { option_map (λ s. items_view s.now) result ≡ list_in (seen found.entry) }
+    ensures few { IfSome result (λ s. length s.now ≤ MOST_TABLES) }
 {
     if found.is_none() {
         return Some(&[]);

@@ -3,8 +3,10 @@ ghost use Rattle.std.specs.Prelude.{◌≡◌, ◌≤◌, ◌^◌, IfSome, Some,
 ghost use Rattle.peano_keys.specs.State.{count_of};
 ghost use Rattle.volume_solver.specs.Ranges.{IsWind, EdgeHas};
 ghost use Rattle.toml.specs.View.{view, items_view};
-ghost use Rattle.grid_file.specs.Values.{parts_of, dim_in, solver_named, solver_in, axes_in, speed_in, third_speed, speeds_in, wind_in, corner_within, from_in, to_in, values_in, state_in, fixed_named, fixed_in, edge_in, print_every_in};
+ghost use Rattle.grid_file.specs.Tree.{seen};
+ghost use Rattle.grid_file.specs.Values.{parts_of, axes_seen, dimension_in, solver_named, solver_in, axes_in, speed_in, third_speed, speeds_in, wind_in, corner_within, from_in, to_in, values_in, state_in, fixed_named, fixed_in, edge_in, print_every_in};
 
+use crate::limits::{MOST_RATE, MOST_STEPS};
 use crate::solver::SolverName;
 use crate::tree::{items, number, number_or, text};
 use peano_keys::{Dim, State};
@@ -12,7 +14,7 @@ use toml::Value;
 use volume_solver::EdgeRule;
 
 pub fn dim(found: Option<&Value>) -> Option<Dim>
-    ensures { result ≡ dim_in (option_map (λ v. view v.now) found.entry) }
+    ensures { result ≡ dimension_in (seen found.entry) }
 {
     let number = number(found, 2, 3)?;
     Some(if number == 2 { Dim::Two } else { Dim::Three })
@@ -33,14 +35,14 @@ fn solver_named(name: &str) -> Option<SolverName>
 }
 
 pub fn solver(found: Option<&Value>) -> Option<SolverName>
-    ensures { result ≡ solver_in (option_map (λ v. view v.now) found.entry) }
+    ensures { result ≡ solver_in (seen found.entry) }
 {
     solver_named(text(found)?)
 }
 
 // Exactly two items.
 fn flat_axes<'a>(items: &'a [Value]) -> Option<(&'a Value, &'a Value, Option<&'a Value>)>
-    ensures { option_map (λ p. (view p.0.now, view p.1.now, option_map (λ v. view v.now) p.2)) result ≡ axes_in Dim.Two (items_view items.now) }
+    ensures { option_map axes_seen result ≡ axes_in Dim.Two (items_view items.now) }
 {
     match items {
         [x, y] => Some((x, y, None)),
@@ -50,7 +52,7 @@ fn flat_axes<'a>(items: &'a [Value]) -> Option<(&'a Value, &'a Value, Option<&'a
 
 // Exactly three items.
 fn solid_axes<'a>(items: &'a [Value]) -> Option<(&'a Value, &'a Value, Option<&'a Value>)>
-    ensures { option_map (λ p. (view p.0.now, view p.1.now, option_map (λ v. view v.now) p.2)) result ≡ axes_in Dim.Three (items_view items.now) }
+    ensures { option_map axes_seen result ≡ axes_in Dim.Three (items_view items.now) }
 {
     match items {
         [x, y, z] => Some((x, y, Some(z))),
@@ -60,7 +62,7 @@ fn solid_axes<'a>(items: &'a [Value]) -> Option<(&'a Value, &'a Value, Option<&'
 
 // The items of an array that has as many as there are axes.
 fn axes<'a>(dim: Dim, items: &'a [Value]) -> Option<(&'a Value, &'a Value, Option<&'a Value>)>
-    ensures { option_map (λ p. (view p.0.now, view p.1.now, option_map (λ v. view v.now) p.2)) result ≡ axes_in dim (items_view items.now) }
+    ensures { option_map axes_seen result ≡ axes_in dim (items_view items.now) }
 {
     match dim {
         Dim::Two => flat_axes(items),
@@ -71,10 +73,10 @@ fn axes<'a>(dim: Dim, items: &'a [Value]) -> Option<(&'a Value, &'a Value, Optio
 // A speed of at most a million in either direction.
 fn speed(value: &Value) -> Option<i64>
     ensures value { result ≡ speed_in (view value.now) }
-    ensures most { IfSome result (λ z. unsigned_abs z ≤ 1000000) }
+    ensures most { IfSome result (λ z. unsigned_abs z ≤ MOST_RATE) }
 {
     let speed = value.as_integer()?;
-    if speed.unsigned_abs() <= 1_000_000 {
+    if speed.unsigned_abs() <= MOST_RATE {
         Some(speed)
     } else {
         None
@@ -83,8 +85,8 @@ fn speed(value: &Value) -> Option<i64>
 
 // The speed on an axis, none on an unused one.
 fn third_speed(found: Option<&Value>) -> Option<i64>
-    ensures value { result ≡ third_speed (option_map (λ v. view v.now) found.entry) }
-    ensures most { IfSome result (λ z. unsigned_abs z ≤ 1000000) }
+    ensures value { result ≡ third_speed (seen found.entry) }
+    ensures most { IfSome result (λ z. unsigned_abs z ≤ MOST_RATE) }
 {
     match found {
         None => Some(0),
@@ -103,7 +105,7 @@ fn speeds(dim: Dim, items: &[Value]) -> Option<[i64; 3]>
 
 /// The wind, none on any axis where the key is absent.
 pub fn wind(dim: Dim, found: Option<&Value>) -> Option<[i64; 3]>
-    ensures value { result ≡ wind_in dim (option_map (λ v. view v.now) found.entry) }
+    ensures value { result ≡ wind_in dim (seen found.entry) }
     ensures ranges { IfSome result IsWind }
 {
     if found.is_none() {
@@ -141,7 +143,7 @@ fn extent(level: u32) -> u32
 /// The low corner of a box: a cell of the level.
 pub fn from(dim: Dim, level: u32, found: Option<&Value>) -> Option<[u32; 3]>
     requires { level ≤ 12 }
-    ensures value { result ≡ from_in dim level (option_map (λ v. view v.now) found.entry) }
+    ensures value { result ≡ from_in dim level (seen found.entry) }
     ensures first { IfSome result (λ x. slice_index x 0 ≤ 3 ^ level) }
     ensures second { IfSome result (λ x. slice_index x 1 ≤ 3 ^ level) }
     ensures third { IfSome result (λ x. slice_index x 2 ≤ 3 ^ level) }
@@ -155,7 +157,7 @@ pub fn to(dim: Dim, level: u32, from: [u32; 3], found: Option<&Value>) -> Option
     requires first { slice_index from 0 ≤ 3 ^ level }
     requires second { slice_index from 1 ≤ 3 ^ level }
     requires third { slice_index from 2 ≤ 3 ^ level }
-    ensures { result ≡ to_in dim level from (option_map (λ v. view v.now) found.entry) }
+    ensures { result ≡ to_in dim level from (seen found.entry) }
 {
     let end = extent(level);
     let low = [from[0] + 1, from[1] + 1, from[2] + 1];
@@ -176,7 +178,7 @@ fn values(solver: SolverName, items: &[Value]) -> Option<State>
 
 /// A state of the solver.
 pub fn state(solver: SolverName, found: Option<&Value>) -> Option<State>
-    ensures value { result ≡ state_in solver (option_map (λ v. view v.now) found.entry) }
+    ensures value { result ≡ state_in solver (seen found.entry) }
     ensures parts { IfSome result (λ s. count_of s ≡ parts_of solver) }
 {
     values(solver, items(found)?)
@@ -196,7 +198,7 @@ fn fixed_named(name: &str) -> Option<bool>
 
 /// Whether the domain's edge is fixed, and no copy.
 pub fn fixed(found: Option<&Value>) -> Option<bool>
-    ensures { result ≡ fixed_in (option_map (λ v. view v.now) found.entry) }
+    ensures { result ≡ fixed_in (seen found.entry) }
 {
     if found.is_none() {
         return Some(false);
@@ -206,7 +208,7 @@ pub fn fixed(found: Option<&Value>) -> Option<bool>
 
 /// The rule at the domain's edge: a fixed one has a state, and a copy has none.
 pub fn edge(solver: SolverName, fixed: bool, found: Option<&Value>) -> Option<EdgeRule>
-    ensures value { result ≡ edge_in solver fixed (option_map (λ v. view v.now) found.entry) }
+    ensures value { result ≡ edge_in solver fixed (seen found.entry) }
     ensures parts { IfSome result (EdgeHas (parts_of solver)) }
 {
     if fixed {
@@ -220,10 +222,10 @@ pub fn edge(solver: SolverName, fixed: bool, found: Option<&Value>) -> Option<Ed
 
 /// How often a step is printed, none where the key is absent.
 pub fn print_every(found: Option<&Value>) -> Option<Option<u32>>
-    ensures { result ≡ print_every_in (option_map (λ v. view v.now) found.entry) }
+    ensures { result ≡ print_every_in (seen found.entry) }
 {
     if found.is_none() {
         return Some(None);
     }
-    Some(Some(number(found, 1, 10_000)? as u32))
+    Some(Some(number(found, 1, MOST_STEPS)? as u32))
 }

@@ -22,7 +22,7 @@ use Rattle.peano_run.specs.Left.{EndsAtLast, IsLeft, LeavesWorld}
 use Rattle.peano_run.specs.Run.{EndsAtReport}
 use Rattle.peano_run.proofs.Blocks.{report_of}
 use Rattle.peano_run.proofs.Leads.{count_to}
-use Rattle.peano_run.specs.Course.{IsCourse, IsStopped, Shows, ShowFails, too_many, no_memory, with_text}
+use Rattle.peano_run.specs.Course.{IsCourse, IsStopped, ShowsStep, ShowFails, too_many, no_memory, with_text}
 
 -- the moment before anything is shown
 abbrev pub first_moment : CutPoints → Spacetree → States → Moment
@@ -39,7 +39,7 @@ wants_memory r plan refused e = subst (IsStopped r plan) (sym e) (record { cause
 module _ (r : Request) (plan : Plan) where
   -- a course that starts
   pub opening_course : (keys : CutPoints) (g : Spacetree) (f : States) (after : Course) → Opens plan.shape g → cells_of g ≤ 200000 → OpensField g plan.fills (parts_in plan.solver) f → AreFirstKeys plan.shape.depth g r.trees keys →
-      Shows r plan 0 (first_moment keys g f) after → IsCourse r plan 0 after
+      ShowsStep r plan 0 (first_moment keys g f) after → IsCourse r plan 0 after
   opening_course keys g f after grid room field first h = record {
     moment = with_text r plan 0 (first_moment keys g f) h.added;
     shown = h.shown;
@@ -61,7 +61,7 @@ module _ (r : Request) (plan : Plan) where
 
   module _ (n : ℕ) (b : Moment) (g : Spacetree) (f : States) (on : GoesOn r plan n b) (taken : IsServedStep (updated_by plan.solver) (marked_by plan.solver) b.grid b.field g f) where
     -- a course that goes on
-    pub next_course : (after : Course) → Shows r plan (suc n) (after_step b g f) after → IsCourse r plan (suc n) after
+    pub next_course : (after : Course) → ShowsStep r plan (suc n) (after_step b g f) after → IsCourse r plan (suc n) after
     next_course after h = record {
       moment = with_text r plan (suc n) (after_step b g f) h.added;
       shown = h.shown;

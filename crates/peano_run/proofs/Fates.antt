@@ -22,7 +22,7 @@ use Rattle.grid_file.specs.Plan.{printed}
 use Rattle.step_driver.specs.Starts.{AreFirstKeys}
 use Rattle.step_driver.proofs.Rests.{one_traffic}
 use Rattle.peano_run.specs.declared.asked.Request.{Request}
-use Rattle.peano_run.specs.Report.{Moment, Starts, Follows, Reaches, GoesOn, IsReportOf, HasManyLines, at_start, in_step, OverflowsIn, CrowdedIn, IsAdded, IsAddedIf, IsTrafficText, most_lines, shows_traffic, fields_text, added_lines}
+use Rattle.peano_run.specs.Report.{Moment, Starts, IsNextMoment, Reaches, GoesOn, IsReportOf, HasManyLines, at_start, in_step, PlanOverflows, PlanCrowds, IsAdded, IsAddedIf, IsTrafficText, most_lines, shows_traffic, fields_text, added_lines}
 use Rattle.peano_run.proofs.Blocks.{last_moment}
 use Rattle.peano_run.proofs.OneKeys.{one_keys}
 
@@ -30,8 +30,8 @@ use Rattle.peano_run.proofs.OneKeys.{one_keys}
 pub data Fate (r : Request) (plan : Plan) (a : Answer) : Type 0 where
   too_large : a ≡ Limit Cells 200000 → IsTooLarge plan.shape → Fate r plan a
   too_long : a ≡ Limit Lines most_lines → HasManyLines r plan → Fate r plan a
-  overflows : (step : ℕ) (leaf : CellKey) → a ≡ Overflow step leaf → OverflowsIn r plan step leaf → Fate r plan a
-  crowded : (step cells : ℕ) → a ≡ Crowded step cells → CrowdedIn r plan step cells → Fate r plan a
+  overflows : (step : ℕ) (leaf : CellKey) → a ≡ Overflow step leaf → PlanOverflows r plan step leaf → Fate r plan a
+  crowded : (step cells : ℕ) → a ≡ Crowded step cells → PlanCrowds r plan step cells → Fate r plan a
 
 module _ (r : Request) (plan : Plan) where
   one_printed : (b : Bool) (k : Cuts) (step : ℕ) (g : Spacetree) (f : States) (x y : List ℕ) → IsAddedIf b r plan k step g f x → IsAddedIf b r plan k step g f y → x ≡ y
@@ -55,7 +55,7 @@ module _ (r : Request) (plan : Plan) where
       let lines : m.lines ≡ k.lines = h.lines ∙ ap (added_lines r plan 0) fields ∙ sym g.lines in
       λ i. record { keys = keys i; grid = grids i; field = fields i; text = texts i; lines = lines i }
 
-  one_next : (step : ℕ) (before m k : Moment) → Follows r plan step before m → Follows r plan step before k → m ≡ k
+  one_next : (step : ℕ) (before m k : Moment) → IsNextMoment r plan step before m → IsNextMoment r plan step before k → m ≡ k
   one_next step before m k h g =
       let both : ◌≡◌ {A = Both} (m.grid, m.field) (k.grid, k.field) = one_step (updated_by plan.solver) (marked_by plan.solver) before.grid before.field m.grid m.field k.grid k.field h.taken.step g.taken.step in
       let fields : m.field ≡ k.field = ap (λ (p : Both). p.1) both in
@@ -70,19 +70,19 @@ module _ (r : Request) (plan : Plan) where
   one_moment zero m k h g = one_start m k h g
   one_moment (suc n) m k h g =
       let same : h.0 ≡ g.0 = one_moment n h.0 g.0 h.1 g.1 in
-      one_next (suc n) g.0 m k (subst (λ (b : Moment). Follows r plan (suc n) b m) same h.2) g.2
+      one_next (suc n) g.0 m k (subst (λ (b : Moment). IsNextMoment r plan (suc n) b m) same h.2) g.2
 
   opening : (n : ℕ) (m : Moment) → Reaches r plan n m → (k : Moment) × Starts r plan k
   opening zero m h = (m, h)
   opening (suc n) m h = opening n h.0 h.1
 
   -- on the way to a later moment a plan goes on from each earlier one
-  passes : (n : ℕ) (m : Moment) (s : ℕ) → s < n → Reaches r plan n m → (b : Moment) × (a : Moment) × GoesOn r plan s b × Follows r plan (suc s) b a
+  passes : (n : ℕ) (m : Moment) (s : ℕ) → s < n → Reaches r plan n m → (b : Moment) × (a : Moment) × GoesOn r plan s b × IsNextMoment r plan (suc s) b a
   passes zero m s lt h = absurd (omega arith)
   passes (suc n) m s lt h =
       let le : s ≤ n = omega arith in
       elim (eq-or-lt_of_le le) [
-        | inl e ↦ (h.0, m, subst (λ k. GoesOn r plan k h.0) (sym e) (record { reached = h.1; room = h.2.room }), subst (λ k. Follows r plan (suc k) h.0 m) (sym e) h.2)
+        | inl e ↦ (h.0, m, subst (λ k. GoesOn r plan k h.0) (sym e) (record { reached = h.1; room = h.2.room }), subst (λ k. IsNextMoment r plan (suc k) h.0 m) (sym e) h.2)
         | inr l ↦ passes n h.0 s l h.1
       ]
 
@@ -102,7 +102,7 @@ module _ (r : Request) (plan : Plan) where
       let b = h.reached.0 in
       let follows = h.reached.2 in
       let same : b ≡ before = one_moment n b before h.reached.1 on.reached in
-      let next = subst (λ (k : Moment). Follows r plan (suc n) k m) same follows in
+      let next = subst (λ (k : Moment). IsNextMoment r plan (suc n) k m) same follows in
       let both : ◌≡◌ {A = Both} (m.grid, m.field) (g, f) = one_step (updated_by plan.solver) (marked_by plan.solver) before.grid before.field m.grid m.field g f next.taken.step taken.step in
       let lines : m.lines ≡ before.lines + added_lines r plan (suc n) f = next.lines ∙ ap (λ (p : Both). before.lines + added_lines r plan (suc n) p.1) both in
       let room = h.room in
@@ -129,19 +129,19 @@ module _ (r : Request) (plan : Plan) where
         | inr l ↦ (let part = passes n m (suc k) l h.reached in few_at k before g f part.0 on taken many part.2)
       ]
 
-  not_over : (step : ℕ) (leaf : CellKey) (o : OverflowsIn r plan step leaf) (n : ℕ) (m : Moment) → Reaches r plan n m → o.before < n → ⊥
+  not_over : (step : ℕ) (leaf : CellKey) (o : PlanOverflows r plan step leaf) (n : ℕ) (m : Moment) → Reaches r plan n m → o.before < n → ⊥
   not_over step leaf o n m h l =
       let part = passes n m o.before l h in
       let same : o.last ≡ part.0 = one_moment o.before o.last part.0 o.reached.reached part.2.reached in
       served_or_over (updated_by plan.solver) (marked_by plan.solver) part.0.grid part.0.field part.1.grid part.1.field leaf part.3.taken (subst (λ (k : Moment). Overflows (updated_by plan.solver) k.grid k.field leaf) same o.overflows)
 
-  not_crowded : (step cells : ℕ) (c : CrowdedIn r plan step cells) (n : ℕ) (m : Moment) → Reaches r plan n m → c.before < n → ⊥
+  not_crowded : (step cells : ℕ) (c : PlanCrowds r plan step cells) (n : ℕ) (m : Moment) → Reaches r plan n m → c.before < n → ⊥
   not_crowded step cells c n m h l =
       let part = passes n m c.before l h in
       let same : c.last ≡ part.0 = one_moment c.before c.last part.0 c.reached.reached part.2.reached in
       served_or_crowded (updated_by plan.solver) (marked_by plan.solver) part.0.grid part.0.field part.1.grid part.1.field cells part.3.taken (subst (λ (k : Moment). Crowds (updated_by plan.solver) (marked_by plan.solver) k.grid k.field cells) same c.crowds)
 
-  long_or_over : (long : HasManyLines r plan) (step : ℕ) (leaf : CellKey) → OverflowsIn r plan step leaf → ⊥
+  long_or_over : (long : HasManyLines r plan) (step : ℕ) (leaf : CellKey) → PlanOverflows r plan step leaf → ⊥
   long_or_over (at_start g f grid room field many) step leaf o = not_long (at_start g f grid room field many) o.before o.last o.reached (omega arith)
   long_or_over (in_step k before g f more on taken many) step leaf o = elim (cases_lt o.before k) [
     | inl l ↦ not_over step leaf o k before on.reached l
@@ -152,7 +152,7 @@ module _ (r : Request) (plan : Plan) where
     ]
   ]
 
-  long_or_crowded : (long : HasManyLines r plan) (step cells : ℕ) → CrowdedIn r plan step cells → ⊥
+  long_or_crowded : (long : HasManyLines r plan) (step cells : ℕ) → PlanCrowds r plan step cells → ⊥
   long_or_crowded (at_start g f grid room field many) step cells c = not_long (at_start g f grid room field many) c.before c.last c.reached (omega arith)
   long_or_crowded (in_step k before g f more on taken many) step cells c = elim (cases_lt c.before k) [
     | inl l ↦ not_crowded step cells c k before on.reached l
@@ -167,7 +167,7 @@ module _ (r : Request) (plan : Plan) where
   large_or_long large (at_start g f grid room field many) = (let more = large.grids g grid in omega (arith, more, room))
   large_or_long large (in_step k before g f more on taken many) = not_large large k before on.reached
 
-  crowded_or_over : (step : ℕ) (leaf : CellKey) (late cells : ℕ) → OverflowsIn r plan step leaf → CrowdedIn r plan late cells → ⊥
+  crowded_or_over : (step : ℕ) (leaf : CellKey) (late cells : ℕ) → PlanOverflows r plan step leaf → PlanCrowds r plan late cells → ⊥
   crowded_or_over step leaf late cells o c = elim (cases_lt o.before c.before) [
     | inl l ↦ not_over step leaf o c.before c.last c.reached.reached l
     | inr le ↦ elim (eq-or-lt_of_le le) [
@@ -177,7 +177,7 @@ module _ (r : Request) (plan : Plan) where
     ]
   ]
 
-  one_over : (step : ℕ) (leaf : CellKey) (late : ℕ) (other : CellKey) → OverflowsIn r plan step leaf → OverflowsIn r plan late other → Overflow step leaf ≡ Overflow late other
+  one_over : (step : ℕ) (leaf : CellKey) (late : ℕ) (other : CellKey) → PlanOverflows r plan step leaf → PlanOverflows r plan late other → Overflow step leaf ≡ Overflow late other
   one_over step leaf late other o p = elim (cases_lt o.before p.before) [
     | inl l ↦ absurd (not_over step leaf o p.before p.last p.reached.reached l)
     | inr le ↦ elim (eq-or-lt_of_le le) [
@@ -189,7 +189,7 @@ module _ (r : Request) (plan : Plan) where
     ]
   ]
 
-  one_crowd : (step cells late others : ℕ) → CrowdedIn r plan step cells → CrowdedIn r plan late others → Crowded step cells ≡ Crowded late others
+  one_crowd : (step cells late others : ℕ) → PlanCrowds r plan step cells → PlanCrowds r plan late others → Crowded step cells ≡ Crowded late others
   one_crowd step cells late others c d = elim (cases_lt c.before d.before) [
     | inl l ↦ absurd (not_crowded step cells c d.before d.last d.reached.reached l)
     | inr le ↦ elim (eq-or-lt_of_le le) [

@@ -33,7 +33,7 @@ use Rattle.peano_run.specs.declared.course.Course.{Course}
 use Rattle.peano_run.specs.declared.refused.Refused.{Refused}
 use Rattle.peano_run.specs.Report.{Moment, GoesOn, IsAdded, IsAddedIf, IsTrafficText, added_lines, fields_text, shows_fields, shows_traffic, most_lines}
 use Rattle.peano_run.specs.Left.{HasNotesTo, HasNotesBefore, EndsInStep}
-use Rattle.peano_run.specs.Course.{StandsAt, StandsUnshown, StandsShown, IsStopped, Shows, ShowFails, too_many, no_memory, IsShowing, CountsLines}
+use Rattle.peano_run.specs.Course.{StandsAtMoment, StandsUnshown, StandsShown, IsStopped, ShowsStep, ShowFails, too_many, no_memory, IsShowing, CountsLines}
 use Rattle.peano_run.proofs.Courses.{after_step}
 use Rattle.peano_run.proofs.Leads.{count_to, notes_unshown, notes_shown, notes_stepped}
 
@@ -42,7 +42,7 @@ abbrev pub kernel_of : AnySolver → Kernel
 kernel_of s = record { parts = parts_in s; updated = updated_by s; marked = marked_by s }
 
 -- what is so of what is shown, and of why it is not
-pub shown_ok : (r : Request) (plan : Plan) (step : ℕ) (m : Moment) (res : Result Course Refused) (P : Course → Type 0) → IsShowing r plan step m res → ((after : Course) → Shows r plan step m after → P after) → IfOk res P
+pub shown_ok : (r : Request) (plan : Plan) (step : ℕ) (m : Moment) (res : Result Course Refused) (P : Course → Type 0) → IsShowing r plan step m res → ((after : Course) → ShowsStep r plan step m after → P after) → IfOk res P
 shown_ok r plan step m (Ok after) P h f = f after h
 shown_ok r plan step m (Err a) P h f = tt
 
@@ -51,11 +51,11 @@ shown_err r plan step m (Ok after) P h f = tt
 shown_err r plan step m (Err a) P h f = f a h
 
 -- the world of a course, by its own solver
-pub own_parts : (plan : Plan) (step : ℕ) (c : Course) (m : Moment) → StandsAt plan step c m → IsAt (parts_in c.world.solver) c.world m.grid m.field step
+pub own_parts : (plan : Plan) (step : ℕ) (c : Course) (m : Moment) → StandsAtMoment plan step c m → IsAt (parts_in c.world.solver) c.world m.grid m.field step
 own_parts plan step c m h = subst (λ s. IsAt (parts_in s) c.world m.grid m.field step) (sym h.solver) h.at
 
 -- at its own step
-pub own_step : (plan : Plan) (step : ℕ) (c : Course) (m : Moment) → StandsAt plan step c m → IsAt (parts_in c.world.solver) c.world m.grid m.field c.world.step
+pub own_step : (plan : Plan) (step : ℕ) (c : Course) (m : Moment) → StandsAtMoment plan step c m → IsAt (parts_in c.world.solver) c.world m.grid m.field c.world.step
 own_step plan step c m h = subst (λ n. IsAt (parts_in c.world.solver) c.world m.grid m.field n) (sym h.at.step_is) (own_parts plan step c m h)
 
 traffic_told : (b : Bool) (k : Cuts) (step : ℕ) (g : Spacetree) (list : List Traffic) → TellTraffic k g list → IsTrafficText b k step g (if b then traffic_block step list else [])
@@ -72,7 +72,7 @@ unshown r plan step m (Ok after) Q to err = absurd err
 unshown r plan step m (Err e) Q to err = no_memory (to e err)
 
 -- a step that is not printed adds nothing
-pub not_printed : (r : Request) (plan : Plan) (step : ℕ) (c : Course) (m : Moment) → printed plan step ≡ false → c.lines ≤ most_lines → StandsUnshown r plan step c m → Shows r plan step m c
+pub not_printed : (r : Request) (plan : Plan) (step : ℕ) (c : Course) (m : Moment) → printed plan step ≡ false → c.lines ≤ most_lines → StandsUnshown r plan step c m → ShowsStep r plan step m c
 not_printed r plan step c m e room h = record {
   added = [];
   told = subst (λ b. IsAddedIf b r plan (cuts_of m.keys) step m.grid m.field []) (sym e) refl;
@@ -93,7 +93,7 @@ module _ (r : Request) (plan : Plan) (c : Course) (m : Moment) (unshown : Stands
   abbrev step : ℕ
   step = c.world.step
 
-  abbrev h : StandsAt plan step c m
+  abbrev h : StandsAtMoment plan step c m
   h = unshown.stands
 
   -- it is refused because of its lines
@@ -120,7 +120,7 @@ module _ (r : Request) (plan : Plan) (c : Course) (m : Moment) (unshown : Stands
     -- or it is shown
     pub printed_shows : (text : Vec ℕ Global) (lines : ℕ) (fields : List ℕ) → w.solver ≡ c.world.solver → w.keys ≡ c.world.keys → CountsLines r c.lines m.field (Some lines) →
         fields ≡ c.text.items ++ (if shows_fields r.show then field_block plan.shape.dim shown.step shown.rows.items else []) → text.items ≡ fields ++ (if shows_traffic r.show then traffic_block shown.step shown.traffic.items else []) →
-        Shows r plan step m (record { world = w; text = text; lines = lines })
+        ShowsStep r plan step m (record { world = w; text = text; lines = lines })
     printed_shows text lines fields solver keys count first second =
         let blocks : (if shows_fields r.show then field_block plan.shape.dim shown.step shown.rows.items else []) ≡ fields_text r plan step m.field =
         ap₂ (λ s rows. if shows_fields r.show then field_block plan.shape.dim s rows else []) is.step_is is.rows in

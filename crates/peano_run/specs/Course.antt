@@ -16,7 +16,7 @@ use Rattle.peano_run.specs.Report.{Moment, GoesOn, IsAdded, Refuses, added_lines
 use Rattle.peano_run.specs.Left.{HasNotesBefore, HasNotesTo, LeavesOf}
 
 -- a course stands at a moment after so many steps: its world is at the moment's grid and field, and it has the report so far
-pub record StandsAt (plan : Plan) (step : ℕ) (c : Course) (m : Moment) : Type 0 where
+pub record StandsAtMoment (plan : Plan) (step : ℕ) (c : Course) (m : Moment) : Type 0 where
   pub at : IsAt (parts_in plan.solver) c.world m.grid m.field step
   pub solver : c.world.solver ≡ plan.solver
   pub keys : c.world.keys ≡ m.keys
@@ -25,16 +25,16 @@ pub record StandsAt (plan : Plan) (step : ℕ) (c : Course) (m : Moment) : Type 
 
 -- at some moment
 abbrev pub IsUnderWay : Plan → ℕ → Course → Type 0
-IsUnderWay plan step c = (m : Moment) × StandsAt plan step c m
+IsUnderWay plan step c = (m : Moment) × StandsAtMoment plan step c m
 
 -- so before the step is shown, with the notes up to then
 pub record StandsUnshown (r : Request) (plan : Plan) (step : ℕ) (c : Course) (m : Moment) : Type 0 where
-  pub stands : StandsAt plan step c m
+  pub stands : StandsAtMoment plan step c m
   pub noted : HasNotesBefore r.trees plan c.world.keys step m.grid m.field c.world.notes
 
 -- and after it, with its notes
 pub record StandsShown (r : Request) (plan : Plan) (step : ℕ) (c : Course) (m : Moment) : Type 0 where
-  pub stands : StandsAt plan step c m
+  pub stands : StandsAtMoment plan step c m
   pub noted : HasNotesTo r.trees plan c.world.keys step m.grid m.field c.world.notes
 
 -- a course that a run of a plan has come to in so many steps
@@ -58,7 +58,7 @@ abbrev pub with_text : Request → Plan → ℕ → Moment → List ℕ → Mome
 with_text r plan step m added = record { keys = m.keys; grid = m.grid; field = m.field; text = m.text ++ added; lines = m.lines + added_lines r plan step m.field }
 
 -- a course after what a step shows of it
-pub record Shows (r : Request) (plan : Plan) (step : ℕ) (before : Moment) (after : Course) : Type 0 where
+pub record ShowsStep (r : Request) (plan : Plan) (step : ℕ) (before : Moment) (after : Course) : Type 0 where
   pub added : List ℕ
   pub told : IsAdded r plan (cuts_of before.keys) step before.grid before.field added
   pub shown : StandsShown r plan step after (with_text r plan step before added)
@@ -72,5 +72,5 @@ pub data ShowFails (r : Request) (plan : Plan) (step : ℕ) (m : Moment) (refuse
 
 -- one of both, by the answer
 abbrev pub IsShowing : Request → Plan → ℕ → Moment → Result Course Refused → Type 0
-IsShowing r plan step m (Ok after) = Shows r plan step m after
+IsShowing r plan step m (Ok after) = ShowsStep r plan step m after
 IsShowing r plan step m (Err refused) = ShowFails r plan step m refused

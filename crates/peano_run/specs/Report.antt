@@ -90,7 +90,7 @@ pub record Starts (r : Request) (plan : Plan) (m : Moment) : Type 0 where
   pub lines : m.lines ≡ added_lines r plan 0 m.field
 
 -- one moment follows another by a step that is not refused
-pub record Follows (r : Request) (plan : Plan) (step : ℕ) (before after : Moment) : Type 0 where
+pub record IsNextMoment (r : Request) (plan : Plan) (step : ℕ) (before after : Moment) : Type 0 where
   pub room : before.lines ≤ most_lines
   pub keys : after.keys ≡ before.keys
   pub taken : IsServedStep (updated_by plan.solver) (marked_by plan.solver) before.grid before.field after.grid after.field
@@ -102,7 +102,7 @@ pub record Follows (r : Request) (plan : Plan) (step : ℕ) (before after : Mome
 -- a run of a plan comes to a moment in so many steps; only the lines of the last of them are not tested yet
 abbrev pub Reaches : Request → Plan → ℕ → Moment → Type 0
 Reaches r plan zero m = Starts r plan m
-Reaches r plan (suc n) m = (before : Moment) × Reaches r plan n before × Follows r plan (suc n) before m
+Reaches r plan (suc n) m = (before : Moment) × Reaches r plan n before × IsNextMoment r plan (suc n) before m
 
 -- so that a next step is taken: with no more lines than there may be
 pub record GoesOn (r : Request) (plan : Plan) (n : ℕ) (m : Moment) : Type 0 where
@@ -157,7 +157,7 @@ pub data HasManyLines (r : Request) (plan : Plan) : Type 0 where
       most_lines < before.lines + added_lines r plan (suc n) f → HasManyLines r plan
 
 -- a plan overflows in a step, at the least leaf that fails
-pub record OverflowsIn (r : Request) (plan : Plan) (step : ℕ) (leaf : CellKey) : Type 0 where
+pub record PlanOverflows (r : Request) (plan : Plan) (step : ℕ) (leaf : CellKey) : Type 0 where
   pub before : ℕ
   pub last : Moment
   pub step_is : step ≡ suc before
@@ -166,7 +166,7 @@ pub record OverflowsIn (r : Request) (plan : Plan) (step : ℕ) (leaf : CellKey)
   pub overflows : Overflows (updated_by plan.solver) last.grid last.field leaf
 
 -- a plan is crowded in a step: no leaf fails, and the next grid has so many cells, more than there may be
-pub record CrowdedIn (r : Request) (plan : Plan) (step cells : ℕ) : Type 0 where
+pub record PlanCrowds (r : Request) (plan : Plan) (step cells : ℕ) : Type 0 where
   pub before : ℕ
   pub last : Moment
   pub step_is : step ≡ suc before
@@ -189,8 +189,8 @@ IsReport r bytes text = OfPlan bytes (λ plan. IsReportOf r plan text)
 abbrev pub Refuses : Request → Plan → Answer → Type 0
 Refuses r plan (Limit Cells number) = (number ≡ 200000) × IsTooLarge plan.shape
 Refuses r plan (Limit Lines number) = (number ≡ most_lines) × HasManyLines r plan
-Refuses r plan (Crowded step cells) = CrowdedIn r plan step cells
-Refuses r plan (Overflow step leaf) = OverflowsIn r plan step leaf
+Refuses r plan (Crowded step cells) = PlanCrowds r plan step cells
+Refuses r plan (Overflow step leaf) = PlanOverflows r plan step leaf
 Refuses r plan NoMemory = Unit {0}
 Refuses r plan _ = ⊥
 

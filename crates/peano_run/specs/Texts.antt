@@ -2,7 +2,7 @@
 use Rattle.std.specs.Prelude.{ℕ, List, [], ◌++◌, codes}
 use Rattle.std.specs.Fmt.{decimal}
 use Rattle.peano_keys.specs.declared.dim.Dim.{Dim}
-use Rattle.grid_file.specs.Places as places
+use Rattle.grid_file.specs.Places.{place_text}
 use Rattle.field_report.specs.Block.{key_text}
 use Rattle.peano_run.specs.declared.answer.Answer.{Answer}
 use Rattle.peano_run.specs.declared.answer.Answer.TheVariants.{Done, Usage, ReadFault, TooLong, Malformed, Limit, Crowded, Overflow, WriteFault, NoMemory}
@@ -20,7 +20,7 @@ text_of dim Done = []
 text_of dim Usage = codes "usage: peano [--trees N] [--workers N] [--show fields|traffic|all] [--demo N]\n"
 text_of dim ReadFault = codes "read fault\n"
 text_of dim TooLong = codes "input longer than 1048576 bytes\n"
-text_of dim (Malformed code place) = codes "malformed " ++ decimal code ++ codes " at " ++ places.text_of place ++ codes "\n"
+text_of dim (Malformed code place) = codes "malformed " ++ decimal code ++ codes " at " ++ place_text place ++ codes "\n"
 text_of dim (Limit which number) = codes "limit " ++ counted_by which ++ decimal number ++ codes "\n"
 text_of dim (Crowded step cells) = codes "crowded step " ++ decimal step ++ codes " cells " ++ decimal cells ++ codes "\n"
 text_of dim (Overflow step leaf) = codes "overflow step " ++ decimal step ++ codes " at " ++ key_text dim leaf ++ codes "\n"

@@ -4,7 +4,8 @@ use Rattle.grid_file.specs.declared.place.Part.TheVariants.{Fill}
 use Rattle.grid_file.specs.declared.place.KeyName.TheVariants.{Value}
 use Rattle.grid_file.specs.Faults.{Gives}
 use Rattle.grid_file.specs.Values.{state_in}
-use Rattle.grid_file.specs.Plan.{at_key, key_check, box_checks, fill_from}
+use Rattle.grid_file.specs.Keys.{at_key, key_check}
+use Rattle.grid_file.specs.Boxes.{box_checks, fill_from}
 use Rattle.grid_file.proofs.Searches.{first_append}
 use Rattle.grid_file.proofs.boxes.fill.Goals as goal
 

@@ -1,5 +1,5 @@
 use Rattle.std.proofs.Common.{rules}
-use Rattle.grid_file.specs.Plan.{fill_checks, fill_from}
+use Rattle.grid_file.specs.Boxes.{fill_checks, fill_from}
 use Rattle.grid_file.proofs.Steps.{nothing_refused, something_refused, one_read}
 use Rattle.grid_file.proofs.boxes.fills_in.Goals as goal
 

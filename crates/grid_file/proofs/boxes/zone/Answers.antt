@@ -3,7 +3,8 @@ use Rattle.toml.specs.View.{table_view}
 use Rattle.grid_file.specs.declared.place.Part.TheVariants.{Refine}
 use Rattle.grid_file.specs.declared.place.KeyName.TheVariants.{Until}
 use Rattle.grid_file.specs.Faults.{Gives}
-use Rattle.grid_file.specs.Plan.{key_check, box_checks, zone_from, until_in}
+use Rattle.grid_file.specs.Keys.{key_check}
+use Rattle.grid_file.specs.Boxes.{box_checks, zone_from, until_in}
 use Rattle.grid_file.proofs.Searches.{first_append}
 use Rattle.grid_file.proofs.boxes.zone.Goals as goal
 

@@ -1,5 +1,5 @@
 use Rattle.std.proofs.Common.{rules}
-use Rattle.grid_file.specs.Plan.{zone_checks, zone_from}
+use Rattle.grid_file.specs.Boxes.{zone_checks, zone_from}
 use Rattle.grid_file.proofs.Steps.{nothing_refused, something_refused, one_read}
 use Rattle.grid_file.proofs.boxes.zones_in.Goals as goal
 

@@ -1,7 +1,8 @@
 use Rattle.std.proofs.Common.{◌≡◌, ◌++◌, drop}
 use Rattle.toml.specs.View.{items_view}
 use Rattle.grid_file.specs.Faults.{first}
-use Rattle.grid_file.specs.Plan.{in_each, read_each, zone_checks, zone_from}
+use Rattle.grid_file.specs.Keys.{in_each}
+use Rattle.grid_file.specs.Boxes.{read_each, zone_checks, zone_from}
 use Rattle.grid_file.proofs.boxes.zones_in.Given as goal
 
 abbrev pub invariant-loop-index : goal.invariant-loop-index

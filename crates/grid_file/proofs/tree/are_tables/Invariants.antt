@@ -1,6 +1,6 @@
 use Rattle.std.proofs.Common.{◌≡◌, drop}
 use Rattle.toml.specs.View.{items_view}
-use Rattle.grid_file.specs.Values.{are_tables}
+use Rattle.grid_file.specs.Tree.{are_tables}
 use Rattle.grid_file.proofs.tree.are_tables.Given as goal
 
 abbrev pub invariant-loop-item : goal.invariant-loop-item

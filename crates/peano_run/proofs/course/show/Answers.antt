@@ -1,12 +1,12 @@
 use Rattle.std.proofs.Common.{sym, subst, ◌∙◌}
-use Rattle.peano_run.specs.Course.{StandsAt, StandsUnshown, IsShowing}
+use Rattle.peano_run.specs.Course.{StandsAtMoment, StandsUnshown, IsShowing}
 use Rattle.peano_run.proofs.Showings.{not_printed}
 use Rattle.peano_run.proofs.course.show.Goals as goal
 
 pub print-requires-clause-way : goal.print-requires-clause-way
 print-requires-clause-way c =
     let h = c.requires.way in
-    (h.0, subst (λ n. StandsAt c.args.plan.now n c.args.course h.0) (sym h.1.at.step_is) h.1)
+    (h.0, subst (λ n. StandsAtMoment c.args.plan.now n c.args.course h.0) (sym h.1.at.step_is) h.1)
 
 pub returns-then-is_printed : goal.returns-then-is_printed
 returns-then-is_printed c = λ m h.

@@ -1,6 +1,6 @@
 use Rattle.std.proofs.Common.{◌+◌, sym, subst, add-one}
 use Rattle.volume_solver.specs.Any.{adapting_in}
-use Rattle.peano_run.specs.Course.{IsCourse, Shows, ShowFails}
+use Rattle.peano_run.specs.Course.{IsCourse, ShowsStep, ShowFails}
 use Rattle.peano_run.proofs.Courses.{after_step, next_course, next_refused}
 use Rattle.peano_run.proofs.Showings.{shown_ok, shown_err, own_step, serves_plan, stands_after, refused_overflow, refused_crowded}
 use Rattle.peano_run.proofs.course.stepped.Goals as goal
@@ -22,7 +22,7 @@ returns-in-Ok-clause-ok c =
     let taken = serves_plan c.args.request plan c.args.step c.args.course m h (adapting_in c.args.course.world.solver) c.advance.new.self a in
     shown_ok c.args.request plan (c.args.step + 1) (after_step m a.grid a.field) c.show.result _ (c.show.ensures (after_step m a.grid a.field) stands)
     (λ after shows. subst (λ n. IsCourse c.args.request plan n after) (sym (add-one c.args.step))
-    (next_course c.args.request plan c.args.step m a.grid a.field c.requires.course.reached taken after (subst (λ n. Shows c.args.request plan n (after_step m a.grid a.field) after) (add-one c.args.step) shows)))
+    (next_course c.args.request plan c.args.step m a.grid a.field c.requires.course.reached taken after (subst (λ n. ShowsStep c.args.request plan n (after_step m a.grid a.field) after) (add-one c.args.step) shows)))
 
 pub returns-in-Ok-clause-err : goal.returns-in-Ok-clause-err
 returns-in-Ok-clause-err c =
