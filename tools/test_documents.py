@@ -1,8 +1,9 @@
 #!/usr/bin/env python3
 """Tests what README.md and docs/*.md show and cite: ends with status 0 where all of it is in the repository.
 
-A block that begins with '$ bin/peano < examples/NAME.toml' must go on with examples/NAME.out, which the gate compares with
-the proved program's report (crates/worked_examples). A block that begins with '$ tools/..' must go on with what that tool
+A block that begins with '$ bin/peano < examples/NAME.toml' must go on with examples/NAME.out, and one that has words before
+the '<' with examples/NAME.words.out, where the words must be those of examples/NAME.words; the gate compares both with the
+proved program's reports (crates/worked_examples). A block that begins with '$ tools/..' must go on with what that tool
 writes, and each picture docs/pictures/NAME_STEP.svg must be the one that tools/draw_field.py --svg draws. Each path under
 examples/, tools/, docs/, bin/ and crates/ must be there, and each link must lead somewhere.
 """
@@ -28,15 +29,24 @@ def blocks_of(text):
             block = []
 
 
+def text_of(file):
+    """What a file of the repository has."""
+    with open(file, encoding="utf-8") as it:
+        return it.read()
+
+
 def output_of(command):
     """What a command that a document shows writes."""
     program, _, file = command.partition(" < ")
-    if program == "bin/peano":
-        file = file[: -len(".toml")] + ".out"
+    name, words = file[: -len(".toml")], program.split()[1:]
+    if not program.startswith("bin/peano"):
         with open(file, encoding="utf-8") as it:
-            return it.read()
-    with open(file, encoding="utf-8") as it:
-        return subprocess.run(program.split(), stdin=it, capture_output=True, text=True, check=True).stdout
+            return subprocess.run(program.split(), stdin=it, capture_output=True, text=True, check=True).stdout
+    if not words:
+        return text_of(f"{name}.out")
+    if not os.path.exists(f"{name}.words") or text_of(f"{name}.words").split() != words:
+        return f"no run of the gate: examples have no run of {file} with these words"
+    return text_of(f"{name}.words.out")
 
 
 def anchors_of(text):
@@ -50,7 +60,7 @@ def faults_of(name):
     with open(name, encoding="utf-8") as it:
         text = it.read()
     for block in blocks_of(text):
-        if re.match(r"\$ (bin/peano|tools/\S+.*) < examples/", block[0]):
+        if re.match(r"\$ (bin/peano.*|tools/\S+.*) < examples/", block[0]):
             wanted = output_of(block[0][2:]).rstrip("\n").split("\n")
             if [line.rstrip() for line in block[1:]] != [line.rstrip() for line in wanted]:
                 yield f"the block of '{block[0]}' is not what the command gives"
