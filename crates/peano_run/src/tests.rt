@@ -286,18 +286,38 @@ fn faults_are_told(rt: HostRuntime) -> Result<(), Fail> {
     Ok(())
 }
 
+// A file, then a comment that fills it up to a length.
+fn filled(alloc: Global, file: &str, length: usize) -> Result<Vec<u8>, AllocError> {
+    let mut bytes = file.as_bytes().to_vec(alloc)?;
+    bytes.push(b'#')?;
+    for _ in bytes.len()..length {
+        bytes.push(b'-')?;
+    }
+    Ok(bytes)
+}
+
 #[test]
 fn an_input_is_a_megabyte_at_most(rt: HostRuntime) -> Result<(), Fail> {
     let alloc = rt.alloc();
-    for (spaces, status, text) in [
-        (1_048_576usize, 4u8, "malformed 3 at dim\n"),
-        (1_048_577, 3, "input longer than 1048576 bytes\n"),
+    let cell = "step 0 leaves 1\n0 0 0 7\n";
+    for (file, length, status, report, text) in [
+        (SINGLE_CELL, 1_048_576usize, 0u8, cell, ""),
+        (
+            SINGLE_CELL,
+            1_048_577,
+            3,
+            "",
+            "input longer than 1048576 bytes\n",
+        ),
+        ("", 1_048_576, 4, "", "malformed 3 at dim\n"),
+        ("", 1_048_577, 3, "", "input longer than 1048576 bytes\n"),
     ] {
-        let mut input = MemSource::new(vec![in alloc; b'\n'; spaces]?, Vec::new(alloc));
-        let mut out = MemSink::new(alloc, 10, 10, Vec::new(alloc))?;
+        let mut input = MemSource::new(filled(alloc, file, length)?, Vec::new(alloc));
+        let mut out = MemSink::new(alloc, 100, 10, Vec::new(alloc))?;
         let mut err = MemSink::new(alloc, 100, 100, Vec::new(alloc))?;
         let outcome = run(alloc, &[], &mut input, &mut out, &mut err);
         assert_eq!(rt; outcome.status, status);
+        assert_eq!(rt; out.bytes(), report.as_bytes());
         assert_eq!(rt; err.bytes(), text.as_bytes());
     }
     Ok(())
