@@ -83,7 +83,8 @@ fill_from dim depth solver t =
 
 abbrev pub fill_checks : Dim → ℕ → SolverName → ℕ → Members → List Check
 fill_checks dim depth solver n t =
-    box_checks dim depth Fill n t ++ key_check Fill n key.Value (state_in solver (at_key key.Value t)) ∷ []
+    let value = state_in solver (at_key key.Value t) in
+    box_checks dim depth Fill n t ++ key_check Fill n key.Value value ∷ []
 
 -- code 11: the boxes to refine
 

@@ -27,7 +27,8 @@ malformed code place = record { code = code; place = place }
 -- the faults of one code, in the order of its places
 abbrev pub coded : ℕ → List Check → List Fault
 coded code [] = []
-coded code (c ∷ cs) = record { malformed = malformed code c.place; applies = c.refused } ∷ coded code cs
+coded code (c ∷ cs) =
+    record { malformed = malformed code c.place; applies = c.refused } ∷ coded code cs
 
 -- a code, and what is checked for it, in order
 pub record Step : Type 0 where

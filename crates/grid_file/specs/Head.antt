@@ -54,7 +54,8 @@ base_checks depth t = key_check Document 0 key.Base (base_in depth t) ∷ []
 -- code 7: the solver, then `a` and `wind`, each missing or surplus
 abbrev pub solver_checks : Members → List Check
 solver_checks t =
+    let solver = solver_of t in
     key_check Document 0 key.Solver (solver_in (at_key key.Solver t))
-    ∷ check (document_key key.A) (differ (takes_a (solver_of t)) (is_some (at_key key.A t)))
-    ∷ check (document_key key.Wind) (differ (takes_wind (solver_of t)) (is_some (at_key key.Wind t)))
+    ∷ check (document_key key.A) (differ (takes_a solver) (is_some (at_key key.A t)))
+    ∷ check (document_key key.Wind) (differ (takes_wind solver) (is_some (at_key key.Wind t)))
     ∷ []

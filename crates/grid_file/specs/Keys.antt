@@ -43,8 +43,10 @@ in_tables checks t =
 
 -- the keys that a table may have
 abbrev pub listed_keys : Part → List KeyName
-listed_keys Document = key.Dim ∷ key.Depth ∷ key.Base ∷ key.Solver ∷ key.Version ∷ key.A ∷ key.B ∷ key.Wind
-    ∷ key.Criterion ∷ key.Fill ∷ key.Refine ∷ key.Edge ∷ key.EdgeValue ∷ key.Steps ∷ key.PrintEvery ∷ []
+listed_keys Document =
+    key.Dim ∷ key.Depth ∷ key.Base ∷ key.Solver ∷ key.Version ∷ key.A ∷ key.B ∷ key.Wind
+    ∷ key.Criterion ∷ key.Fill ∷ key.Refine ∷ key.Edge ∷ key.EdgeValue ∷ key.Steps
+    ∷ key.PrintEvery ∷ []
 listed_keys Criterion = key.Hi ∷ key.Lo ∷ key.Watch ∷ []
 listed_keys Fill = key.Level ∷ key.From ∷ key.To ∷ key.Value ∷ []
 listed_keys Refine = key.Level ∷ key.From ∷ key.To ∷ key.Until ∷ []

@@ -125,7 +125,8 @@ edge_checks solver t =
     ∷ []
 
 -- the solver of a name with its numbers; `diffuse` and `wave` take `a`, `advect` takes `wind`
-abbrev pub solver_from : SolverName → dims.Dim → Rates → EdgeRule → Option criteria.Criterion → AnySolver
+abbrev pub solver_from :
+    SolverName → dims.Dim → Rates → EdgeRule → Option criteria.Criterion → AnySolver
 solver_from Diffuse dim r edge watch =
     Diffusing (record { dim = dim; a = r.a; b = r.b; edge = edge; watch = watch })
 solver_from Advect dim r edge watch =

@@ -47,7 +47,8 @@ head_of t = record {
 -- the first of codes 12 to 14
 abbrev pub tail_fault : SolverName → Members → Option Malformed
 tail_fault solver t =
-    first_in (step 12 (edge_checks solver t) ∷ step 13 (steps_checks t) ∷ step 14 (print_checks t) ∷ [])
+    first_in (step 12 (edge_checks solver t) ∷ step 13 (steps_checks t)
+    ∷ step 14 (print_checks t) ∷ [])
 
 -- what a file says last
 abbrev pub tail_of : SolverName → Members → Tail

@@ -9,7 +9,7 @@ ghost use Rattle.grid_file.specs.Solvers.{rate_checks, rates_of, criterion_check
 ghost use Rattle.grid_file.specs.Plan.{plan_from};
 ghost use Rattle.grid_file.specs.Stages.{head_of, body_fault, tail_fault, tail_of};
 
-use crate::boxes::{fills, zones};
+use crate::boxes::rows;
 use crate::fault::{PlanFault, refused};
 use crate::head::Head;
 use crate::keys::at;
@@ -21,7 +21,7 @@ use crate::tree::{number, number_or, table};
 use crate::values::{edge, fixed, print_every, wind};
 use peano_keys::Dim;
 use solver_api::Criterion;
-use spacetree::Shape;
+use spacetree::{Fill, Shape, Zone};
 use std::alloc::Global;
 use toml::{Table, Value};
 use volume_solver::EdgeRule;
@@ -202,8 +202,8 @@ pub fn read_body(alloc: Global, head: Head, document: &Table) -> Result<Plan, Pl
     } = head;
     let rates = read_rates(dim, document)?;
     let watch = criterion(depth, solver, at(document, KeyName::Criterion))?;
-    let fills = fills(alloc, dim, depth, solver, at(document, KeyName::Fill))?;
-    let zones = zones(alloc, dim, depth, at(document, KeyName::Refine))?;
+    let fills = rows::<Fill>(alloc, head, at(document, KeyName::Fill))?;
+    let zones = rows::<Zone>(alloc, head, at(document, KeyName::Refine))?;
     let Tail {
         edge,
         steps,

@@ -50,7 +50,9 @@ fn found_in(pass: Pass, part: Part, index: u32, table: &Table) -> Option<Malform
 // What a pass finds where there may be a table.
 fn found_at(pass: Pass, part: Part, index: u32, table: Option<&Table>) -> Option<Malformed>
     ensures { result
-        ≡ first (code_of pass) (in_table (checks_of pass part) index (option_map (λ t. table_view t.now) table.entry)) }
+        ≡ first (code_of pass)
+        (in_table (checks_of pass part) index
+        (option_map (λ t. table_view t.now) table.entry)) }
 {
     found_in(pass, part, index, table?)
 }
@@ -59,7 +61,8 @@ fn found_at(pass: Pass, part: Part, index: u32, table: Option<&Table>) -> Option
 #[tactic(auto, using(crate::proofs::Searches::first_append))]
 fn found_in_each(pass: Pass, part: Part, items: &[Value]) -> Option<Malformed>
     requires { length items.now ≤ MOST_TABLES }
-    ensures { result ≡ first (code_of pass) (in_each (checks_of pass part) 0 (items_view items.now)) }
+    ensures { result
+        ≡ first (code_of pass) (in_each (checks_of pass part) 0 (items_view items.now)) }
 {
     for (index, item) in items.iter().enumerate() {
         if let Some(fault) = found_at(pass, part, index as u32, item.as_table()) {

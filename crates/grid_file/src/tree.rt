@@ -98,7 +98,8 @@ fn are_tables(items: &[Value]) -> bool
 
 // At most a thousand items, each a table.
 fn tables_within<'a>(items: &'a [Value]) -> Option<&'a [Value]>
-    ensures value { option_map (λ s. items_view s.now) result ≡ tables_within (items_view items.now) }
+    ensures value { option_map (λ s. items_view s.now) result
+        ≡ tables_within (items_view items.now) }
     ensures few { IfSome result (λ s. length s.now ≤ MOST_TABLES) }
 {
     if items.len() > MOST_TABLES {
