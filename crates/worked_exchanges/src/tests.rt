@@ -549,23 +549,27 @@ fn exchange_filled(
     slots_of(rt, alloc, ours)
 }
 
-// Of the 14 vertices of the first four of nine leaves, eight slots are of the other leaves and four of the root, all of
-// which the other tree owns. The other 44 are of cells of its own, or of none.
-#[test]
-fn each_phase_slot_by_slot(rt: HostRuntime) -> Result<(), AllocError> {
-    // The phase; what becomes of our slot alone, and with theirs.
-    let table = [
-        (
-            Phase::First,
+// What becomes of our slot in an exchange: where no word of theirs comes, and where theirs is taken over.
+fn slots_after(phase: Phase) -> [Slot; 2] {
+    let settled = Slot {
+        intent: Intent::Stay,
+        ..OURS
+    };
+    let opened = Slot {
+        value: State::Single(3),
+        status: Status::Refined,
+        ..settled
+    };
+    match phase {
+        Phase::First => [
             OURS,
             Slot {
                 next: State::Single(4),
                 mark: Mark::Refine,
                 ..OURS
             },
-        ),
-        (
-            Phase::Second,
+        ],
+        Phase::Second => [
             Slot {
                 value: State::Single(2),
                 ..OURS
@@ -576,34 +580,15 @@ fn each_phase_slot_by_slot(rt: HostRuntime) -> Result<(), AllocError> {
                 intent: Intent::Merge,
                 ..OURS
             },
-        ),
-        (
-            Phase::Third,
-            Slot {
-                intent: Intent::Stay,
-                ..OURS
-            },
-            Slot {
-                value: State::Single(3),
-                status: Status::Refined,
-                intent: Intent::Stay,
-                ..OURS
-            },
-        ),
-        (
-            Phase::Opening,
-            Slot {
-                intent: Intent::Stay,
-                ..OURS
-            },
-            Slot {
-                value: State::Single(3),
-                status: Status::Refined,
-                intent: Intent::Stay,
-                ..OURS
-            },
-        ),
-    ];
+        ],
+        Phase::Third | Phase::Opening => [settled, opened],
+    }
+}
+
+// Of the 14 vertices of the first four of nine leaves, eight slots are of the other leaves and four of the root, all of
+// which the other tree owns. The other 44 are of cells of its own, or of none.
+#[test]
+fn each_phase_slot_by_slot(rt: HostRuntime) -> Result<(), AllocError> {
     let alloc = rt.alloc();
     let (keys, mut stores) = trees_over(&rt, alloc, 1, 0, 2)?;
     let Some(mut theirs) = stores.pop() else {
@@ -612,8 +597,9 @@ fn each_phase_slot_by_slot(rt: HostRuntime) -> Result<(), AllocError> {
     let Some(mut ours) = stores.pop() else {
         return Err(AllocError);
     };
-    for (phase, alone, told) in table {
+    for phase in [Phase::First, Phase::Second, Phase::Third, Phase::Opening] {
         let slots = exchange_filled(&rt, alloc, &mut ours, &mut theirs, &keys, phase)?;
+        let [alone, told] = slots_after(phase);
         assert_eq!(rt;
             [
                 count_of(slots.as_slice(), told),
