@@ -46,7 +46,8 @@ def check_words(tool):
 
 def main():
     os.chdir(os.path.join(os.path.dirname(os.path.abspath(__file__)), ".."))
-    for report in sorted(glob.glob("examples/*.out")):
+    # Reports of fields: those that an example's words ask for show traffic.
+    for report in sorted(name for name in glob.glob("examples/*.out") if not name.endswith(".words.out")):
         with open(report[: -len(".out")] + ".toml", encoding="utf-8") as file:
             axes = int(re.search(r"(?m)^dim = (\d)", file.read()).group(1))
         with open(report, encoding="utf-8") as file:
