@@ -9,4 +9,5 @@ use Rattle.adapt_marks.specs.Views.{ShowsMarks}
 
 -- for each grid, all marks and each cell of the domain there is a view of the cell that shows them
 abbrev pub MarkedViewsExist : Type 0
-MarkedViewsExist = (depth : ℕ) (g : Spacetree) (marks : CellKey → Mark) (c : CellKey) → IsGrid depth g → IsCell g.dim c → (view : CellView) × (view.key ≡ c) × ShowsMarks g marks view
+MarkedViewsExist = (depth : ℕ) (g : Spacetree) (marks : CellKey → Mark) (c : CellKey)
+    → IsGrid depth g → IsCell g.dim c → (view : CellView) × (view.key ≡ c) × ShowsMarks g marks view

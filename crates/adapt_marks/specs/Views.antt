@@ -24,7 +24,8 @@ HasMark g marks q s = is_leaf g q ≡ true → s.mark ≡ marks q
 pub record ShowsMarks (g : Spacetree) (marks : CellKey → Mark) (view : CellView) : Type 0 where
   pub cell : IsCell g.dim view.key
   pub grid : Shows g.dim (Some g) g false view
-  pub marked : (n : ℕ) (s : VertexRecord) → n < corners g.dim → corner_at view n ≡ Vertex s → SaysOfCells g.dim s (HasMark g marks)
+  pub marked : (n : ℕ) (s : VertexRecord) → n < corners g.dim → corner_at view n ≡ Vertex s
+      → SaysOfCells g.dim s (HasMark g marks)
   pub beyond : (n : ℕ) → corners g.dim ≤ n → n < 8 → corner_at view n ≡ Beyond
 
 -- the dimension that a corner in the fifth place tells

@@ -12,7 +12,7 @@ ghost use Rattle.peano_records.specs.Tells.{slot_tells, corner_at};
 ghost use Rattle.adapt_marks.specs.Decisions.{IsLeafMarked, AllCoarsen, CornerCoarsens};
 ghost use Rattle.adapt_marks.specs.Views.{dim_shown, ShowsMarks, IsCentre};
 
-use peano_keys::{Dim, Mark, home_corner, slot_of};
+use peano_keys::{Dim, Mark, corner_count, home_corner, slot_of};
 use peano_records::{CellView, Corner, Intent, Slot, Status, Stored};
 
 // Whether a slot tells that its cell is refined.
@@ -51,16 +51,6 @@ fn dim_of(view: &CellView) -> Dim
     }
 }
 
-// How many corners a cell has, and so many positions a vertex.
-pub(crate) fn corner_count(dim: Dim) -> u32
-    ensures { result ≡ corners dim }
-{
-    match dim {
-        Dim::Two => 4,
-        Dim::Three => 8,
-    }
-}
-
 // Whether the first `count` slots of a record tell of leaves that are marked to be coarsened.
 fn all_coarsen(stored: &Stored, count: u32) -> bool
     requires { count ≤ 8 }
@@ -88,7 +78,9 @@ fn corner_coarsens(corner: &Corner, count: u32) -> bool
 /// Whether the parent of this centre child merges: all its children are leaves that are marked to be coarsened. Each of
 /// them has a slot at a corner of the centre child.
 pub fn merges(centre: &CellView) -> bool
-    ensures { (g : Spacetree) (marks : CellKey → Mark) → IsCentre g.dim centre.now.key → ShowsMarks g marks centre.now → IsTrue result ↔ Merges g marks (parent_of centre.now.key) }
+    ensures { (g : Spacetree) (marks : CellKey → Mark) → IsCentre g.dim centre.now.key
+        → ShowsMarks g marks centre.now
+        → IsTrue result ↔ Merges g marks (parent_of centre.now.key) }
 {
     let count = corner_count(dim_of(centre));
     for n in 0..count {
@@ -103,7 +95,8 @@ pub fn merges(centre: &CellView) -> bool
 /// leaf is a cell of the grid.
 pub fn splits(leaf: &CellView) -> bool
     requires { IsCell (dim_shown leaf.now) leaf.now.key }
-    ensures { (g : Spacetree) (marks : CellKey → Mark) → ShowsMarks g marks leaf.now → IsTrue result ↔ Splits g marks leaf.now.key }
+    ensures { (g : Spacetree) (marks : CellKey → Mark) → ShowsMarks g marks leaf.now
+        → IsTrue result ↔ Splits g marks leaf.now.key }
 {
     let dim = dim_of(leaf);
     let home = home_corner(dim, leaf.key);

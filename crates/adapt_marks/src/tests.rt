@@ -6,9 +6,10 @@ ghost use Rattle.peano_keys.specs.Dim.{corners};
 ghost use Rattle.peano_keys.specs.declared.dim.Dim.TheVariants.{Three};
 ghost use Rattle.adapt_marks.specs.Views.{dim_by, dim_shown};
 
-use crate::marks::corner_count;
 use crate::{merges, splits};
-use peano_keys::{CellKey, Dim, Mark, Side, Sides, State, VertexKey, adjacent, corner, is_cell};
+use peano_keys::{
+    CellKey, Dim, Mark, Side, Sides, State, VertexKey, adjacent, corner, corner_count, is_cell,
+};
 use peano_records::{CellView, Corner, Intent, Slot, Status, Stored};
 
 // All cells are leaves that are marked to be coarsened, but for one.

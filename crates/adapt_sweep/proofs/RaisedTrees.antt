@@ -52,7 +52,7 @@ use Rattle.step_phases.specs.Phases.{AfterRaise}
 use Rattle.step_phases.proofs.Grids.{level_in, at_position_is}
 use Rattle.adapt_sweep.specs.declared.raise.Raise.{Raise}
 use Rattle.adapt_sweep.specs.Raises.{Source, source_of, IsRaisedSlot, IsRaisedRecord, IsRaisedView}
-use Rattle.adapt_sweep.specs.Noted.{note_of}
+use Rattle.tree_automaton.specs.Noted.{note_of}
 use Rattle.adapt_sweep.specs.Raising.{Raises, LeavesAsIs, CanBeRaised, IsRaisedTree}
 use Rattle.step_phases.specs.Sweeps.{IsRaised, IsSweptRecord, RaiseChanges}
 use Rattle.adapt_sweep.proofs.Outputs.{swept_raised}

@@ -35,7 +35,7 @@ use Rattle.swept_slots.specs.Changes.{IfHeld, IsSweepOf, IsSweptVertex}
 use Rattle.swept_slots.specs.Laws.{IsSweptTree}
 use Rattle.swept_slots.specs.Copies.{copies}
 use Rattle.swept_slots.proofs.Swept.{swept_less, swept_vertices}
-use Rattle.adapt_sweep.specs.Noted.{note_of}
+use Rattle.tree_automaton.specs.Noted.{note_of}
 use Rattle.adapt_sweep.specs.Adapts.{Adapts}
 use Rattle.adapt_sweep.specs.Adapting.{CanBeAdapted, IsAdaptedTree, adapting_plan}
 use Rattle.adapt_sweep.proofs.Changed.{each_adapts}

@@ -14,7 +14,7 @@ use Rattle.tree_automaton.specs.AtRest.{HasLists, StandsBefore, plain_plan}
 use Rattle.step_phases.specs.Change.{Change}
 use Rattle.step_phases.specs.Sweeps.{IsAdapted}
 use Rattle.swept_slots.specs.Copies.{copies}
-use Rattle.adapt_sweep.specs.Noted.{IsNoted}
+use Rattle.tree_automaton.specs.Noted.{IsNoted}
 
 -- a store of one of the trees of some cuts, which stands before the adaptation that a change makes
 pub record CanBeAdapted (k : Cuts) (w : Change) (s : TreeLists) : Type 0 where

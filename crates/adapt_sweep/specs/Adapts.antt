@@ -26,6 +26,7 @@ abbrev pub refined_by : Dim → Option Bool → CellView → Bool
 refined_by dim None v = false
 refined_by dim (Some was) v = corner_tells (slot_from dim (home_of dim v.key)) (corner_at v (home_of dim v.key))
 
+-- whether the cell of a view is refined in the new grid
 abbrev pub refined_next : Dim → CellView → Bool
 refined_next dim v = refined_by dim v.was v
 
@@ -34,6 +35,7 @@ abbrev pub value_by : Dim → Option Bool → CellView → State
 value_by dim None v = v.carried
 value_by dim (Some was) v = value_at_home dim v
 
+-- the value that the cell of a view takes over
 abbrev pub value_next : Dim → CellView → State
 value_next dim v = value_by dim v.was v
 
@@ -45,7 +47,9 @@ written k status value Beyond = Beyond
 
 -- at each corner of a view the cell's slot takes the status in the new grid and the value; nothing else is changed
 pub record IsAdaptedView (dim : Dim) (v w : CellView) : Type 0 where
-  pub each : (n : ℕ) → n < corners dim → corner_at w n ≡ written (slot_from dim n) (status_of (refined_next dim v)) (value_next dim v) (corner_at v n)
+  pub each : (n : ℕ) → n < corners dim
+      → corner_at w n
+      ≡ written (slot_from dim n) (status_of (refined_next dim v)) (value_next dim v) (corner_at v n)
   pub past : (n : ℕ) → corners dim ≤ n → corner_at w n ≡ corner_at v n
   pub size : length w.corners ≡ length v.corners
   pub others : w ≡ record v { corners = w.corners }

@@ -1,6 +1,5 @@
 pub mod Own
 pub mod Lone
-pub mod Noted
 pub mod Raises
 pub mod Raising
 pub mod Adapts

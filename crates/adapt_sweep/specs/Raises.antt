@@ -32,7 +32,8 @@ source_of r = record { grid = r.grid.now; field = r.field.now; cuts = cuts_of r.
 -- the tree's own cells take their values from the field, and no other slot takes one
 abbrev pub HasOwnValue : Source → Option CellKey → Slot → Slot → Type 0
 HasOwnValue r None s t = t.value ≡ s.value
-HasOwnValue r (Some c) s t = (IsOwn r.cuts r.tree c → t.value ≡ value_of r.grid r.field c) × (¬ IsOwn r.cuts r.tree c → t.value ≡ s.value)
+HasOwnValue r (Some c) s t = (IsOwn r.cuts r.tree c → t.value ≡ value_of r.grid r.field c)
+    × (¬ IsOwn r.cuts r.tree c → t.value ≡ s.value)
 
 -- the slot of a position takes its status from the grid, whoever owns the cell; nothing but status and value is changed
 pub record IsRaisedSlot (r : Source) (position : Option CellKey) (s t : Slot) : Type 0 where
@@ -44,7 +45,8 @@ pub record IsRaisedSlot (r : Source) (position : Option CellKey) (s t : Slot) : 
 pub record IsRaisedRecord (r : Source) (s t : VertexRecord) : Type 0 where
   pub key : t.key ≡ s.key
   pub size : length t.slots ≡ length s.slots
-  pub inside : (k : ℕ) → k < corners r.grid.dim → IsRaisedSlot r (adjacent_of r.grid.dim s.key k) (slot_at s k) (slot_at t k)
+  pub inside : (k : ℕ) → k < corners r.grid.dim
+      → IsRaisedSlot r (adjacent_of r.grid.dim s.key k) (slot_at s k) (slot_at t k)
   pub intents : (k : ℕ) → k < 8 → (slot_at t k).intent ≡ (slot_at s k).intent
   pub unused : (k : ℕ) → corners r.grid.dim ≤ k → k < 8 → slot_at t k ≡ slot_at s k
 

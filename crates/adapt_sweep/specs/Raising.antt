@@ -13,12 +13,13 @@ use Rattle.step_phases.specs.Sweeps.{IsRaised}
 use Rattle.swept_slots.specs.Copies.{copies}
 use Rattle.adapt_sweep.specs.declared.raise.Raise.{Raise}
 use Rattle.adapt_sweep.specs.Raises.{source_of, IsRaisedView}
-use Rattle.adapt_sweep.specs.Noted.{IsNoted}
+use Rattle.tree_automaton.specs.Noted.{IsNoted}
 
 -- what the calls of the visitor do
 abbrev pub Raises : Raise → CellView → CellView → Raise → Type 0
 Raises r v w s = (s ≡ r) × IsRaisedView (source_of r) v w
 
+-- a leave of the raising sweep changes nothing
 abbrev pub LeavesAsIs : Raise → CellView → CellView → Raise → Type 0
 LeavesAsIs r v w s = (s ≡ r) × (w ≡ v)
 

@@ -10,8 +10,8 @@ ghost use Rattle.tree_automaton.specs.Views.{value_in};
 ghost use Rattle.adapt_sweep.specs.Adapts.{Adapts, IsAdaptedView, corner_tells, refined_next, value_next, written};
 
 use crate::adapt::{Adapt, NewGrid};
-use crate::own::{corner_count, is_own, status};
-use peano_keys::{Dim, State, home_corner, slot_of};
+use crate::own::{is_own, status};
+use peano_keys::{Dim, State, corner_count, home_corner, slot_of};
 use peano_records::{CellView, Corner, Intent, Slot, Status};
 use std::alloc::AllocError;
 use tree_automaton::Visitor;

@@ -46,13 +46,3 @@ pub(crate) fn status(refined: bool) -> Status
         Status::Leaf
     }
 }
-
-// How many corners a cell has, and so many positions a vertex.
-pub(crate) fn corner_count(dim: Dim) -> u32
-    ensures { result ≡ corners dim }
-{
-    match dim {
-        Dim::Two => 4,
-        Dim::Three => 8,
-    }
-}

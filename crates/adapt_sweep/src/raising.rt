@@ -7,9 +7,9 @@ ghost use Rattle.tree_automaton.specs.Promises.{IsViewIn};
 ghost use Rattle.adapt_sweep.specs.Raises.{source_of, IsOfDim, IsRaisedSlot, IsRaisedRecord, IsRaisedCorner, IsRaisedView};
 ghost use Rattle.adapt_sweep.specs.Raising.{Raises, LeavesAsIs};
 
-use crate::own::{corner_count, is_own, status, value};
+use crate::own::{is_own, status, value};
 use crate::raise::Raise;
-use peano_keys::{CellKey, adjacent};
+use peano_keys::{CellKey, adjacent, corner_count};
 use peano_records::{CellView, Corner, Slot, Status, Stored};
 use std::alloc::AllocError;
 use tree_automaton::Visitor;

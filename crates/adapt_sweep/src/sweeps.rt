@@ -27,7 +27,8 @@ pub fn raise_tree(
 ) -> Result<SweepNote, AllocError>
     requires { CanBeRaised (cuts_of keys.now) grid.now store.old }
     ensures raised { IfOk result (λ note. IsRaisedTree (cuts_of keys.now) grid.now field.now step store.old store.new note) }
-    ensures alone { IfOk result (λ _. (cuts_of keys.now).trees ≡ 1 → StandsFor (cuts_of keys.now).depth (range_of (cuts_of keys.now) store.old.tree) store.old.tree Backward grid.now field.now store.new) }
+    ensures alone { IfOk result (λ _. (cuts_of keys.now).trees ≡ 1
+        → StandsFor (cuts_of keys.now).depth (range_of (cuts_of keys.now) store.old.tree) store.old.tree Backward grid.now field.now store.new) }
     ensures refused { OnErr result (store.new.live ≡ false) }
     ensures tale { OnErr result (store.new.lanes.tale ≡ store.old.lanes.tale) }
 {
@@ -44,7 +45,9 @@ pub fn adapt_tree<N: NewGrid>(
     step: u32,
 ) -> Result<SweepNote, AllocError>
     requires { (w : Change) × (w.new ≡ N.grid) × CanBeAdapted (cuts_of keys.now) w store.old }
-    ensures adapted { IfOk result (λ note. (w : Change) → w.new ≡ N.grid → CanBeAdapted (cuts_of keys.now) w store.old → IsAdaptedTree (cuts_of keys.now) w step store.old store.new note) }
+    ensures adapted { IfOk result (λ note. (w : Change) → w.new ≡ N.grid
+        → CanBeAdapted (cuts_of keys.now) w store.old
+        → IsAdaptedTree (cuts_of keys.now) w step store.old store.new note) }
     ensures refused { OnErr result (store.new.live ≡ false) }
     ensures tale { OnErr result (store.new.lanes.tale ≡ store.old.lanes.tale) }
 {

@@ -4,38 +4,70 @@ ghost use Rattle.peano_keys.specs.Grid.{IsGrid};
 ghost use Rattle.peano_curve.specs.declared.order.Direction.TheVariants.{Backward};
 ghost use Rattle.curve_cuts.specs.Cuts.{IsCutGrid, AreCuts, range_of};
 ghost use Rattle.curve_cuts.specs.Keys.{cuts_of};
-ghost use Rattle.spacetree.specs.Build.{IsShape};
+ghost use Rattle.spacetree.specs.Build.{IsShape, IsZone};
 ghost use Rattle.tree_automaton.specs.AtRest.{StandsFor};
 
 use adapt_sweep::raise_tree;
 use curve_cuts::{Keys, is_tiling};
-use peano_keys::{CellKey, Dim};
+use peano_keys::{Dim, root};
 use spacetree::{Field, Grid, Listed, Shape, Zone};
 use std::alloc::{AllocError, Global};
 use tree_automaton::TreeStore;
 
-/// The shape of a grid of a level all over, of which the middle is refined down to a depth.
-pub fn shape(alloc: Global, dim: Dim, depth: u32, level: u32) -> Result<Shape, AllocError>
-    requires least { 1 ≤ depth }
+// The shape of a grid of a level all over, with one zone.
+fn with_zone(
+    alloc: Global,
+    dim: Dim,
+    depth: u32,
+    level: u32,
+    zone: Zone,
+) -> Result<Shape, AllocError>
     requires most { depth ≤ 12 }
     requires level { level ≤ depth }
+    requires zone { IsZone dim depth zone }
     ensures shape { IfOk result (λ s. IsShape s) }
     ensures dim { IfOk result (λ s. s.dim ≡ dim) }
     ensures depth { IfOk result (λ s. s.depth ≡ depth) }
 {
     let mut zones = Vec::new(alloc);
-    zones.push(Zone {
-        level: 1,
-        from: [1; 3],
-        to: [2; 3],
-        until: depth,
-    })?;
+    zones.push(zone)?;
     Ok(Shape {
         dim,
         depth,
         base: level,
         zones: Listed::new(zones),
     })
+}
+
+/// The shape of a grid of a level all over, of which the middle is refined down to a depth.
+pub fn middle(alloc: Global, dim: Dim, depth: u32, level: u32) -> Result<Shape, AllocError>
+    requires least { 1 ≤ depth }
+    requires most { depth ≤ 12 }
+    requires level { level ≤ depth }
+    ensures shape { IfOk result (λ s. IsShape s) }
+{
+    let zone = Zone {
+        level: 1,
+        from: [1; 3],
+        to: [2; 3],
+        until: depth,
+    };
+    with_zone(alloc, dim, depth, level, zone)
+}
+
+/// The shape of a grid that is refined to the greatest depth in the corner cell of a level, and not beside it.
+#[tactic(auto, using(peano_keys::proofs::Powers::pow3_positive))]
+pub fn corner(alloc: Global, dim: Dim, level: u32) -> Result<Shape, AllocError>
+    requires level { level ≤ 12 }
+    ensures shape { IfOk result (λ s. IsShape s) }
+{
+    let zone = Zone {
+        level,
+        from: [0; 3],
+        to: [1; 3],
+        until: 12,
+    };
+    with_zone(alloc, dim, 12, 0, zone)
 }
 
 /// The keys of one tree, which has all positions; none where the root does not tile the domain.
@@ -46,14 +78,11 @@ pub fn one_tree(alloc: Global, dim: Dim, depth: u32) -> Result<Option<Keys>, All
     ensures one { IfOk result (λ found. IfSome found (λ keys. (cuts_of keys).trees ≡ 1)) }
     ensures cuts { IfOk result (λ found. IfSome found (λ keys. AreCuts (cuts_of keys))) }
 {
-    let root = [CellKey {
-        level: 0,
-        x: [0; 3],
-    }];
-    if !is_tiling(dim, depth, &root) {
+    let cells = [root()];
+    if !is_tiling(dim, depth, &cells) {
         return Ok(None);
     }
-    let keys = Keys::equal(alloc, dim, depth, &root, 1)?;
+    let keys = Keys::equal(alloc, dim, depth, &cells, 1)?;
     Ok(Some(keys))
 }
 

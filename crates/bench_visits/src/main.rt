@@ -3,19 +3,20 @@
 //! time of a pass, in nanoseconds a visit.
 #![tactic(auto)]
 
-ghost use Rattle.std.specs.Prelude.{◌≡◌, ◌≤◌};
+ghost use Rattle.std.specs.Prelude.{◌≡◌};
 ghost use Rattle.curve_cuts.specs.Cuts.{IsCutGrid};
 ghost use Rattle.curve_cuts.specs.Keys.{cuts_of};
+ghost use Rattle.spacetree.specs.Build.{IsShape};
 
 mod domain;
 mod idle;
 
-use crate::domain::{one_tree, raised, shape};
+use crate::domain::{corner, middle, one_tree, raised};
 use crate::idle::Idle;
 use anyhow::Result;
 use curve_cuts::Keys;
 use peano_keys::Dim;
-use spacetree::{Field, Grid};
+use spacetree::{Field, Grid, Shape};
 use std::alloc::Global;
 use std::time::{Clock, Instant};
 use std::{env, io};
@@ -64,30 +65,25 @@ fn time_sweeps<R: Clock + Alloc<A = Global>>(
     Ok(figure)
 }
 
-// Times one grid, and prints its figure: with its time, or with its visits alone.
+// Times the grid of a shape, and prints its figure: with its time, or with its visits alone.
 fn tell<R: Clock + Alloc<A = Global> + Print>(
     rt: &R,
     name: &str,
-    dim: Dim,
-    depth: u32,
-    level: u32,
+    shape: &Shape,
     passes: Option<u32>,
 ) -> Result<()>
-    requires least { 1 ≤ depth }
-    requires most { depth ≤ 12 }
-    requires level { level ≤ depth }
+    requires { IsShape shape.now }
 {
     let alloc = rt.alloc();
-    let shape = shape(alloc, dim, depth, level)?;
-    let grid = Grid::build(alloc, &shape)?;
+    let grid = Grid::build(alloc, shape)?;
     let field = Field::opening(alloc, &grid, &[], 1)?;
-    let Some(keys) = one_tree(alloc, dim, depth)? else {
+    let Some(keys) = one_tree(alloc, shape.dim, shape.depth)? else {
         return Ok(());
     };
     match passes {
         Some(passes) => {
             let figure = time_sweeps(rt, &grid, &field, &keys, passes)?;
-            println!(rt; "{name}: {} ns", figure.nanos)?;
+            println!(rt; "{name}: {} ns, {} visits", figure.nanos, figure.visits)?;
         }
         None => {
             let figure = time_sweeps(rt, &grid, &field, &keys, 1)?;
@@ -104,17 +100,83 @@ fn main(rt: HostRuntime) -> Result<()> {
         Some(text) => text.as_str().parse::<u32>().ok(),
         None => None,
     };
+    let alloc = rt.alloc();
     match passes {
         Some(_) => {
-            tell(&rt, "plane, level 4", Dim::Two, 4, 4, passes)?;
-            tell(&rt, "plane, level 5", Dim::Two, 5, 5, passes)?;
-            tell(&rt, "plane, adaptive", Dim::Two, 5, 3, passes)?;
-            tell(&rt, "space, level 3", Dim::Three, 3, 3, passes)?;
+            tell(
+                &rt,
+                "plane, level 4",
+                &middle(alloc, Dim::Two, 4, 4)?,
+                passes,
+            )?;
+            tell(
+                &rt,
+                "plane, level 5",
+                &middle(alloc, Dim::Two, 5, 5)?,
+                passes,
+            )?;
+            tell(
+                &rt,
+                "plane, adaptive",
+                &middle(alloc, Dim::Two, 5, 3)?,
+                passes,
+            )?;
+            tell(
+                &rt,
+                "space, level 3",
+                &middle(alloc, Dim::Three, 3, 3)?,
+                passes,
+            )?;
+            tell(
+                &rt,
+                "plane, deep region",
+                &corner(alloc, Dim::Two, 7)?,
+                passes,
+            )?;
+            tell(
+                &rt,
+                "plane, deep corner",
+                &corner(alloc, Dim::Two, 12)?,
+                passes,
+            )?;
+            tell(
+                &rt,
+                "space, deep region",
+                &corner(alloc, Dim::Three, 9)?,
+                passes,
+            )?;
+            tell(
+                &rt,
+                "space, deep corner",
+                &corner(alloc, Dim::Three, 12)?,
+                passes,
+            )?;
         }
         None => {
-            tell(&rt, "plane, level 1", Dim::Two, 1, 1, passes)?;
-            tell(&rt, "plane, adaptive", Dim::Two, 2, 1, passes)?;
-            tell(&rt, "space, level 1", Dim::Three, 1, 1, passes)?;
+            tell(
+                &rt,
+                "plane, level 1",
+                &middle(alloc, Dim::Two, 1, 1)?,
+                passes,
+            )?;
+            tell(
+                &rt,
+                "plane, adaptive",
+                &middle(alloc, Dim::Two, 2, 1)?,
+                passes,
+            )?;
+            tell(
+                &rt,
+                "space, level 1",
+                &middle(alloc, Dim::Three, 1, 1)?,
+                passes,
+            )?;
+            tell(
+                &rt,
+                "plane, deep corner",
+                &corner(alloc, Dim::Two, 12)?,
+                passes,
+            )?;
         }
     }
     Ok(())

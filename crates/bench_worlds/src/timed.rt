@@ -12,8 +12,10 @@ use solver_api::Solver;
 use spacetree::{Field, Grid, evaluate};
 use std::alloc::Global;
 use std::io;
+use std::thread::Threads;
 use std::time::{Clock, Instant};
 use step_driver::World;
+use task_pool::Through;
 use volume_solver::AnySolver;
 
 // The leaves of all steps, and the nanoseconds: of the steps, and of showing the world once.
@@ -51,24 +53,25 @@ fn opened(alloc: Global, plan: &Plan) -> Result<(Grid, Field)>
 }
 
 // Takes so many steps of a world, as far as it is live, and shows it in the end.
-fn time_world<R: Clock + Alloc<A = Global>>(
+fn time_world<R: Clock + Threads + Sync + Alloc<A = Global>>(
     rt: &R,
     dim: Dim,
     world: &mut World<AnySolver>,
     steps: u32,
+    workers: u32,
 ) -> Result<Times> {
     let mut leaves: u64 = 0;
     let start = Instant::now(rt)?;
     for _ in 0..steps {
         if world.is_live() && world.step() < 10_000 {
             leaves = leaves.saturating_add(leaves_among(dim, world.cell_count()));
-            world.advance(rt.alloc())?;
+            world.advance(rt, rt.alloc(), workers.min(16), &Through)?;
         }
     }
     let steps = nanos(rt, &start)?;
     let start = Instant::now(rt)?;
     if world.is_live() {
-        world.show(rt.alloc())?;
+        world.show(rt, rt.alloc())?;
     }
     let show = nanos(rt, &start)?;
     Ok(Times {
@@ -79,7 +82,7 @@ fn time_world<R: Clock + Alloc<A = Global>>(
 }
 
 // The nanoseconds of the plain evaluator for so many steps.
-fn time_evaluator<R: Clock + Alloc<A = Global>>(
+fn time_evaluator<R: Clock + Threads + Sync + Alloc<A = Global>>(
     rt: &R,
     plan: &Plan,
     grid: &Grid,
@@ -99,22 +102,31 @@ fn each(nanos: u64, leaves: u64) -> u64 {
     nanos.checked_div(leaves).unwrap_or(0)
 }
 
-/// Times the steps of a file by a world of so many trees and by the plain evaluator, and prints the nanoseconds for each
+/// Times the steps of a file by a world of so many trees, with so many helpers, and by the plain evaluator, and prints the nanoseconds for each
 /// leaf and step: or takes them by one tree, and prints how many leaves there were.
-pub fn tell<R: Clock + Alloc<A = Global> + Print>(
+pub fn tell<R: Clock + Threads + Sync + Alloc<A = Global> + Print>(
     rt: &R,
     name: &str,
     file: &str,
     trees: Option<u32>,
+    workers: u32,
 ) -> Result<()> {
     let alloc = rt.alloc();
     let plan = read_plan(alloc, file.as_bytes())?;
     let (grid, field) = opened(alloc, &plan)?;
     let count = trees.unwrap_or(1).clamp(1, 64);
     let raising = Instant::now(rt)?;
-    let mut world = World::start(alloc, plan.shape.depth, &grid, &field, plan.solver, count)?;
+    let mut world = World::start(
+        rt,
+        alloc,
+        plan.shape.depth,
+        &grid,
+        &field,
+        plan.solver,
+        count,
+    )?;
     let raised = nanos(rt, &raising)?;
-    let times = time_world(rt, plan.shape.dim, &mut world, plan.steps)?;
+    let times = time_world(rt, plan.shape.dim, &mut world, plan.steps, workers)?;
     let plain = time_evaluator(rt, &plan, &grid, &field)?;
     let at_last = leaves_among(plan.shape.dim, world.cell_count());
     match trees {

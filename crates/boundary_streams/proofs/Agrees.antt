@@ -145,7 +145,7 @@ pub opening_rests : OpeningRests
 opening_rests k g f before after fits e own = phases.opening_rests k g f (copies_of before) (copies_of after) fits own (exchange_takes_owners Opening k g before after fits e)
 
 pub first_spreads : FirstSpreads
-first_spreads k w ready before after fits e own = phases.first_exchange k w ready (copies_of before) (copies_of after) fits own (exchange_takes_owners First k w.old before after fits e)
+first_spreads k w before after fits e own = phases.first_exchange k w (copies_of before) (copies_of after) fits own (exchange_takes_owners First k w.old before after fits e)
 
 pub second_spreads : SecondSpreads
 second_spreads k w before after fits e own = phases.second_exchange k w (copies_of before) (copies_of after) fits own (exchange_takes_owners Second k w.old before after fits e)

@@ -1,4 +1,4 @@
--- A vertex inside a cell that is whole in a tree's range is not shared.
+-- The cell two levels above a vertex that lies inside it has all cells round the vertex in it.
 use Rattle.std.proofs.Common.{◌≡◌, ℕ, ◌+◌, ◌-◌, ◌*◌, ◌/◌, ◌%◌, ◌^◌, ◌<◌, ◌≤◌, List, [], ◌∷◌, length, refl, sym, ap, subst, ◌∙◌, arith}
 use Rattle.std.proofs.lemmas.Nat.{pow-add}
 use Rattle.peano_keys.specs.declared.cell.CellKey.{CellKey}
@@ -8,12 +8,9 @@ use Rattle.peano_keys.specs.declared.dim.Dim.TheVariants.{Two, Three}
 use Rattle.peano_keys.specs.Dim.{third_extent, third_end}
 use Rattle.peano_keys.specs.Cell.{IsCell, at, triple}
 use Rattle.peano_keys.specs.Vertex.{IsVertex, Touches, plane}
-use Rattle.peano_curve.specs.Order.{interval_of}
-use Rattle.peano_curve.specs.Laws.{IsIn, ancestor_of}
-use Rattle.curve_cuts.specs.Cuts.{Cuts, AreCuts, range_of, IsShared}
-use Rattle.curve_cuts.proofs.Cuts.{position_has_one_tree}
-use Rattle.curve_cuts.proofs.Nested.{inside}
-use Rattle.boundary_streams.specs.Sendings.{IsThirdInside, IsInside, Surrounds, IsWithin}
+use Rattle.peano_curve.specs.Laws.{ancestor_of}
+use Rattle.curve_cuts.specs.Round.{Surrounds}
+use Rattle.boundary_streams.specs.Sendings.{IsThirdInside, IsInside}
 
 -- the cell two levels above
 abbrev pub coarse : VertexKey → CellKey
@@ -58,20 +55,3 @@ module _ (dim : Dim) (v : VertexKey) (vertex : IsVertex dim v) (h : IsInside dim
             ∙ ap (λ (n : ℕ). record { level = v.level - 2; x = triple (plane v 0 / 9) n (at q 2 / 9) }) (same_ninth (plane v 1) (at q 1) h.second touches.second_low touches.second_high)
             ∙ ap (λ (n : ℕ). record { level = v.level - 2; x = triple (plane v 0 / 9) (plane v 1 / 9) n }) (third_ninth dim v.level v q vertex cell touches h.third);
       }
-
--- a vertex inside such a cell is not shared
-pub not_shared : (k : Cuts) (t : ℕ) (v : VertexKey) (c : CellKey) → AreCuts k → t < k.trees → IsCell k.dim c → Surrounds k.dim c v → v.level ≤ k.depth → IsWithin (interval_of k.dim c k.depth) (range_of k t) → ¬ IsShared k t v
-not_shared k t v c cuts tree cell round level part_of shared =
-    let q = shared.corner.cell in
-    let p = shared.corner.held in
-    let under : IsIn c q = round q shared.corner.inside shared.corner.touches in
-    let part = inside k.dim k.depth c q cell shared.corner.inside under.level (omega (arith, shared.corner.touches.level, level)) under in
-    shared.apart (position_has_one_tree k shared.other t p.0 cuts (record { tree = shared.corner.tree; holds = p.2 }) (record { tree = tree; holds = (omega (arith, part_of.low, part.0, p.1.0), omega (arith, part_of.high, part.1, p.1.1)) }))
-
--- the same with the dimension by another name
-pub inner_not_shared : (k : Cuts) (t : ℕ) (v : VertexKey) (c : CellKey) (d : Dim) → d ≡ k.dim → AreCuts k → t < k.trees → IsCell d c → Surrounds d c v → v.level ≤ k.depth → IsWithin (interval_of k.dim c k.depth) (range_of k t) → ¬ IsShared k t v
-inner_not_shared k t v c d e cuts tree cell round level part_of = not_shared k t v c cuts tree (subst (λ x. IsCell x c) e cell) (subst (λ x. Surrounds x c v) e round) level part_of
-
--- one tree shares nothing
-pub one_shares_nothing : (k : Cuts) (t : ℕ) (v : VertexKey) → k.trees ≡ 1 → t < k.trees → ¬ IsShared k t v
-one_shares_nothing k t v one tree shared = shared.apart (omega (arith, one, tree, shared.corner.tree))

@@ -26,11 +26,15 @@ parcel_at r a = get is_address r.parcels a
 
 -- a parcel of a sender was added
 abbrev pub HasOneMore : ℕ → Parcel → Received → Received → Type 0
-HasOneMore s p old new = (a : Address) → parcel_at new a ≡ (if is_address (record { sender = s; vertex = p.key }) a then Some p else parcel_at old a)
+HasOneMore s p old new = (a : Address)
+    → parcel_at new a
+    ≡ (if is_address (record { sender = s; vertex = p.key }) a then Some p else parcel_at old a)
 
 -- the parcels of a sender were added: of each vertex the last
 abbrev pub HasNoted : ℕ → List Parcel → Received → Received → Type 0
-HasNoted s list old new = (a : Address) → parcel_at new a ≡ (if s == a.sender then option_or (last_of a.vertex list) (parcel_at old a) else parcel_at old a)
+HasNoted s list old new = (a : Address)
+    → parcel_at new a
+    ≡ (if s == a.sender then option_or (last_of a.vertex list) (parcel_at old a) else parcel_at old a)
 
 -- all parcels that these boxes have for a tree were added
 abbrev pub HasReceived : ℕ → List Outgoing → Received → Type 0

@@ -31,12 +31,14 @@ taken phase n (Some p) ours = overwritten phase (slice_index_or p.slots n (blank
 pub record IsMergedRecord (phase : Phase) (k : Cuts) (mail : Mail) (t : ℕ) (old new : VertexRecord) : Type 0 where
   pub key : new.key ≡ old.key
   pub size : length new.slots ≡ length old.slots
-  pub others : (n o : ℕ) → OwnsSlot k o old.key n → o ≢ t → slot_at new n ≡ finished phase (taken phase n (mail o old.key) (slot_at old n))
-  pub own : (n : ℕ) → n < 8 → ((o : ℕ) → OwnsSlot k o old.key n → o ≡ t) → slot_at new n ≡ finished phase (slot_at old n)
+  pub others : (n o : ℕ) → OwnsSlot k o old.key n → o ≢ t
+      → slot_at new n ≡ finished phase (taken phase n (mail o old.key) (slot_at old n))
+  pub own : (n : ℕ) → n < 8 → ((o : ℕ) → OwnsSlot k o old.key n → o ≡ t)
+      → slot_at new n ≡ finished phase (slot_at old n)
 
 -- A store after its merge: each record is merged, and all else is as it was.
 pub record IsMerged (phase : Phase) (k : Cuts) (mail : Mail) (old new : TreeLists) : Type 0 where
   pub rest : new ≡ record old { lanes = record old.lanes { input = new.lanes.input } }
   pub count : length new.lanes.input ≡ length old.lanes.input
-  pub records : (i : ℕ) (d : VertexRecord) → i < length old.lanes.input →
-      IsMergedRecord phase k mail old.tree (slice_index_or old.lanes.input i d) (slice_index_or new.lanes.input i d)
+  pub records : (i : ℕ) (d : VertexRecord) → i < length old.lanes.input
+      → IsMergedRecord phase k mail old.tree (slice_index_or old.lanes.input i d) (slice_index_or new.lanes.input i d)

@@ -6,13 +6,11 @@ use Rattle.peano_keys.specs.declared.cell.CellKey.{CellKey}
 use Rattle.peano_keys.specs.declared.dim.Dim.{Dim}
 use Rattle.peano_keys.specs.declared.dim.Dim.TheVariants.{Two, Three}
 use Rattle.peano_keys.specs.declared.vertex.VertexKey.{VertexKey}
-use Rattle.peano_keys.specs.Dim.{corners}
-use Rattle.peano_keys.specs.Cell.{IsCell}
-use Rattle.peano_keys.specs.Vertex.{Touches, plane, adjacent_of}
+use Rattle.peano_keys.specs.Dim.{corners, children}
+use Rattle.peano_keys.specs.Vertex.{plane, adjacent_of}
 use Rattle.peano_records.specs.declared.stored.Parcel.{Parcel}
 use Rattle.peano_curve.specs.declared.range.Range.{Range}
-use Rattle.peano_curve.specs.Order.{children, interval_of}
-use Rattle.peano_curve.specs.Laws.{IsIn}
+use Rattle.peano_curve.specs.Order.{interval_of}
 use Rattle.curve_cuts.specs.Cuts.{Cuts, range_of}
 use Rattle.sweep_visits.specs.Plan.{ranges_meet}
 use Rattle.boundary_streams.specs.Holders.{is_sent}
@@ -29,12 +27,16 @@ pub record AreEmpty (n : ℕ) (lists : List (List Parcel)) : Type 0 where
 -- a parcel was added to the list of each tree that passes a test
 pub record AddsWhere (q : ℕ → Bool) (p : Parcel) (old new : List (List Parcel)) : Type 0 where
   pub count : length new ≡ length old
-  pub lists : (t : ℕ) → t < length old → slice_index_or new t [] ≡ (if q t then slice_index_or old t [] ++ p ∷ [] else slice_index_or old t [])
+  pub lists : (t : ℕ) → t < length old
+      → slice_index_or new t []
+      ≡ (if q t then slice_index_or old t [] ++ p ∷ [] else slice_index_or old t [])
 
 -- a parcel was added to the list of each tree that a tree sends its vertex to
 pub record HasSent (k : Cuts) (s : ℕ) (p : Parcel) (old new : List (List Parcel)) : Type 0 where
   pub count : length new ≡ length old
-  pub lists : (t : ℕ) → t < k.trees → slice_index_or new t [] ≡ (if is_sent k s t p.key then slice_index_or old t [] ++ p ∷ [] else slice_index_or old t [])
+  pub lists : (t : ℕ) → t < k.trees
+      → slice_index_or new t []
+      ≡ (if is_sent k s t p.key then slice_index_or old t [] ++ p ∷ [] else slice_index_or old t [])
 
 -- the interval of a position, empty where it lies outside the domain
 abbrev pub interval_at : Cuts → Option CellKey → Range
@@ -80,12 +82,3 @@ pub record IsInside (dim : Dim) (v : VertexKey) : Type 0 where
   pub first : 0 < plane v 0 % 9
   pub second : 0 < plane v 1 % 9
   pub third : IsThirdInside dim (plane v 2)
-
--- all cells of a vertex's level round it lie in a cell
-abbrev pub Surrounds : Dim → CellKey → VertexKey → Type 0
-Surrounds dim c v = (q : CellKey) → IsCell dim q → Touches q v → IsIn c q
-
--- a range is a part of another one
-pub record IsWithin (part whole : Range) : Type 0 where
-  pub low : whole.lo ≤ part.lo
-  pub high : part.hi ≤ whole.hi

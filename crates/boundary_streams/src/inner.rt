@@ -3,14 +3,13 @@
 ghost use Rattle.std.specs.Prelude.{◌<◌, ◌≤◌, ◌↔◌, IsTrue, IfSome};
 ghost use Rattle.peano_keys.specs.Cell.{IsCell};
 ghost use Rattle.peano_keys.specs.Vertex.{IsVertex};
-ghost use Rattle.peano_curve.specs.Order.{interval_of};
-ghost use Rattle.curve_cuts.specs.Cuts.{AreCuts, range_of, IsShared};
+ghost use Rattle.curve_cuts.specs.Cuts.{AreCuts, IsShared};
+ghost use Rattle.curve_cuts.specs.Round.{Surrounds};
 ghost use Rattle.curve_cuts.specs.Keys.{cuts_of};
 ghost use Rattle.boundary_streams.specs.Trees.{IsKeyOf};
-ghost use Rattle.boundary_streams.specs.Sendings.{IsThirdInside, IsInside, Surrounds, IsWithin};
+ghost use Rattle.boundary_streams.specs.Sendings.{IsThirdInside, IsInside};
 
 use curve_cuts::Keys;
-use peano_curve::interval;
 use peano_keys::{CellKey, Dim, VertexKey};
 
 // Whether the third coordinate of a vertex is no border of cells two levels above; a plane has no such borders.
@@ -49,18 +48,6 @@ fn cell_inside(dim: Dim, vertex: VertexKey) -> Option<CellKey>
     })
 }
 
-// Whether a cell is whole in a tree's range.
-fn is_whole(keys: &Keys, cell: CellKey, tree: u32) -> bool
-    requires cell { IsCell keys.now.dim cell }
-    requires level { cell.level ≤ keys.now.depth }
-    requires tree { tree < (cuts_of keys.now).trees }
-    ensures { IsTrue result → IsWithin (interval_of keys.now.dim cell keys.now.depth) (range_of (cuts_of keys.now) tree) }
-{
-    let own = interval(keys.dim(), cell, keys.depth());
-    let range = keys.range(tree);
-    range.lo <= own.lo && own.hi <= range.hi
-}
-
 // Whether a cell that holds all cells round a vertex is whole in a tree's range. Then no other tree has the vertex. It
 // asks for one interval, and says no of some vertices that no other tree has.
 fn is_inner(keys: &Keys, vertex: VertexKey, tree: u32) -> bool
@@ -70,7 +57,7 @@ fn is_inner(keys: &Keys, vertex: VertexKey, tree: u32) -> bool
     ensures { IsTrue result → ¬ IsShared (cuts_of keys.now) tree vertex }
 {
     match cell_inside(keys.dim(), vertex) {
-        Some(cell) => is_whole(keys, cell, tree),
+        Some(cell) => keys.is_whole(cell, tree),
         None => false,
     }
 }

@@ -24,7 +24,8 @@ use tree_automaton::TreeStore;
 fn owners_round(keys: &Keys, vertex: VertexKey, tree: u32) -> [u32; 8]
     requires { IsKeyOf (cuts_of keys.now) vertex }
     ensures eight { length result ≡ 8 }
-    ensures each { (n : ℕ) → n < 8 → IsOwnerAt (cuts_of keys.now) tree vertex n (slice_index result n) }
+    ensures each { (n : ℕ) → n < 8
+        → IsOwnerAt (cuts_of keys.now) tree vertex n (slice_index result n) }
 {
     [
         owner_at(keys, vertex, 0, tree),
@@ -50,7 +51,8 @@ fn source(
     requires slot { n < 8 }
     requires owners { length owners.now ≡ 8 }
     requires eight { length found.now ≡ 8 }
-    requires found { (m : ℕ) → m < n → slice_index_or found.now m None ≡ source_of (mail_of received.now) owners.now tree vertex m }
+    requires found { (m : ℕ) → m < n
+        → slice_index_or found.now m None ≡ source_of (mail_of received.now) owners.now tree vertex m }
     ensures { result ≡ source_of (mail_of received.now) owners.now tree vertex n }
 {
     let owner = owners[n as usize];
@@ -74,7 +76,8 @@ fn sources(
 ) -> [Option<Parcel>; 8]
     requires { length owners.now ≡ 8 }
     ensures eight { length result ≡ 8 }
-    ensures each { (m : ℕ) → m < 8 → slice_index_or result m None ≡ source_of (mail_of received.now) owners.now tree vertex m }
+    ensures each { (m : ℕ) → m < 8
+        → slice_index_or result m None ≡ source_of (mail_of received.now) owners.now tree vertex m }
 {
     let mut found = [None; 8];
     for n in 0..8u32 {
@@ -91,7 +94,8 @@ fn sources_round(
     tree: u32,
 ) -> [Option<Parcel>; 8]
     requires { IsKeyOf (cuts_of keys.now) vertex }
-    ensures each { (n : ℕ) → n < 8 → IsSource (cuts_of keys.now) (mail_of received.now) tree vertex n (slice_index_or result n None) }
+    ensures each { (n : ℕ) → n < 8
+        → IsSource (cuts_of keys.now) (mail_of received.now) tree vertex n (slice_index_or result n None) }
     ensures eight { length result ≡ 8 }
 {
     let owners = owners_round(keys, vertex, tree);
@@ -170,7 +174,8 @@ pub fn merge(
     // A refusal changes nothing.
     ensures err { OnErr result (store.new ≡ store.old) }
     // What a sweep reads stays, so the store is as ready for the next sweep as before.
-    ensures lists { (p : SweepPlan) (number : ℕ) → HasLists p number store.old → HasLists p number store.new }
+    ensures lists { (p : SweepPlan) (number : ℕ) → HasLists p number store.old
+        → HasLists p number store.new }
     ensures tree { IsTreeOf (cuts_of keys.now) store.new }
 {
     let received = receive(alloc, boxes, store.tree())?;

@@ -1,7 +1,6 @@
 //! The positions round a vertex along the curve: which ranges meet them, and who owns them.
 ghost use Rattle.std.specs.Prelude.{◌≡◌, ◌^◌, ◌<◌, ◌≤◌, length};
-ghost use Rattle.peano_curve.specs.Order.{children};
-ghost use Rattle.peano_keys.specs.Dim.{corners};
+ghost use Rattle.peano_keys.specs.Dim.{corners, children};
 ghost use Rattle.curve_cuts.specs.Keys.{cuts_of};
 ghost use Rattle.sweep_visits.specs.Plan.{ranges_meet};
 ghost use Rattle.boundary_streams.specs.Trees.{IsKeyOf};

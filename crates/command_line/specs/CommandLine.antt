@@ -37,9 +37,11 @@ Given = OptionName × Text
 -- with a hyphen (45), or one word, `--name=value`.
 pub data ReadsAs : List Text → List Given → Type 0 where
   nothing : ReadsAs [] []
-  two_words : (name : OptionName) (value : Text) (words : List Text) (options : List Given) → slice_get value 0 ≢ Some 45 → ReadsAs words options
+  two_words : (name : OptionName) (value : Text) (words : List Text) (options : List Given)
+      → slice_get value 0 ≢ Some 45 → ReadsAs words options
       → ReadsAs (dashed name ∷ value ∷ words) ((name, value) ∷ options)
-  one_word : (name : OptionName) (value : Text) (words : List Text) (options : List Given) → ReadsAs words options
+  one_word : (name : OptionName) (value : Text) (words : List Text) (options : List Given)
+      → ReadsAs words options
       → ReadsAs ((dashed name ++ codes "=" ++ value) ∷ words) ((name, value) ∷ options)
 
 -- the value that the first option of this name has

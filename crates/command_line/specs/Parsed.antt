@@ -15,9 +15,11 @@ use Rattle.command_line.specs.declared.words.WordsFault.TheVariants.{Usage, NoMe
 abbrev pub option_rule : Text → Rule
 option_rule name = record (new_rule name) { long = Some name; action = Some Set }
 
+-- a program that has no words of its own for help or its version, and whose words come without its name
 abbrev pub bare_app : App
 bare_app = on_top (λ s. record s { disable_version_flag = true }) (on_top (λ s. record s { disable_help_flag = true }) (on_top (λ s. record s { no_binary_name = true }) (new_app (codes "peano"))))
 
+-- with its four options
 abbrev pub words_app : App
 words_app = with_rule (with_rule (with_rule (with_rule bare_app (option_rule (codes "trees"))) (option_rule (codes "workers"))) (option_rule (codes "show"))) (option_rule (codes "demo"))
 
@@ -25,6 +27,7 @@ words_app = with_rule (with_rule (with_rule (with_rule bare_app (option_rule (co
 abbrev pub found : Text → List Text → Option Text
 found name words = first_of name (matches_of words_app words)
 
+-- the words pass the parse, and these are the texts of the four options
 pub record Found (words : List Text) (t : Texts) : Type 0 where
   pub passes : fault_of words_app words ≡ []
   pub trees : option_map (λ s. s.now) t.trees ≡ found (codes "trees") words

@@ -77,7 +77,8 @@ fn number(text: &str) -> Option<u64>
 
 // The number of an option, from `least` to `greatest`.
 fn number_within(text: Option<&str>, otherwise: u32, least: u32, greatest: u32) -> Option<u32>
-    ensures { MatchOption result ((n : ℕ) → ¬ IsNumber otherwise least greatest (option_map (λ s. s.now) text.entry) n) (IsNumber otherwise least greatest (option_map (λ s. s.now) text.entry)) }
+    ensures { MatchOption result ((n : ℕ)
+        → ¬ IsNumber otherwise least greatest (option_map (λ s. s.now) text.entry) n) (IsNumber otherwise least greatest (option_map (λ s. s.now) text.entry)) }
 {
     let Some(text) = text else {
         return Some(otherwise);
@@ -90,7 +91,8 @@ fn number_within(text: Option<&str>, otherwise: u32, least: u32, greatest: u32) 
 
 // What is shown.
 fn shown(text: Option<&str>) -> Option<ShowWhat>
-    ensures { MatchOption result ((what : ShowWhat) → ¬ IsShown (option_map (λ s. s.now) text.entry) what) (IsShown (option_map (λ s. s.now) text.entry)) }
+    ensures { MatchOption result ((what : ShowWhat)
+        → ¬ IsShown (option_map (λ s. s.now) text.entry) what) (IsShown (option_map (λ s. s.now) text.entry)) }
 {
     match text {
         None | Some("fields") => Some(ShowWhat::Fields),
@@ -103,7 +105,8 @@ fn shown(text: Option<&str>) -> Option<ShowWhat>
 // The number of the demonstration, where one is asked for.
 #[tactic(auto, using(crate::proofs::Numbers::written_fits))]
 fn demonstration(text: Option<&str>) -> Option<Option<u64>>
-    ensures { MatchOption result ((n : Option ℕ) → ¬ IsDemo (option_map (λ s. s.now) text.entry) n) (IsDemo (option_map (λ s. s.now) text.entry)) }
+    ensures { MatchOption result ((n : Option ℕ)
+        → ¬ IsDemo (option_map (λ s. s.now) text.entry) n) (IsDemo (option_map (λ s. s.now) text.entry)) }
 {
     match text {
         None => Some(None),
@@ -142,7 +145,8 @@ pub fn read_words(alloc: Global, words: &[String]) -> Result<Words, WordsFault>
     // An answer is what the words mean.
     ensures ok { IfOk result (Means (map string_bytes words.now)) }
     // Words are refused only where they mean nothing.
-    ensures usage { result ≡ Err WordsFault.Usage → (w : Words) → ¬ Means (map string_bytes words.now) w }
+    ensures usage { result ≡ Err WordsFault.Usage → (w : Words)
+        → ¬ Means (map string_bytes words.now) w }
     // Words that mean something are answered so, unless memory runs out.
     ensures accepted { (w : Words) → Means (map string_bytes words.now) w
         → (result ≡ Ok w) ⊎ (result ≡ Err WordsFault.NoMemory) }

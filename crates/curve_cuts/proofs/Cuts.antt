@@ -4,8 +4,9 @@ use Rattle.std.proofs.Math.Nat.{pow-suc, mul-le-mul_right}
 use Rattle.peano_keys.specs.declared.cell.CellKey.{CellKey}
 use Rattle.peano_keys.specs.declared.dim.Dim.{Dim}
 use Rattle.peano_keys.specs.declared.dim.Dim.TheVariants.{Two, Three}
+use Rattle.peano_keys.specs.Dim.{children}
 use Rattle.peano_keys.specs.Cell.{at, parent_of}
-use Rattle.peano_curve.specs.Order.{children, sibling_place, rank_of, centre_of}
+use Rattle.peano_curve.specs.Order.{sibling_place, rank_of, centre_of}
 use Rattle.peano_curve.specs.Run.{Holds}
 use Rattle.peano_curve.proofs.Ranks.{rank_of-step, width_positive, interval_within}
 use Rattle.peano_curve.proofs.Ancestors.{rank_bound}

@@ -5,10 +5,11 @@ use Rattle.std.proofs.lemmas.Bool.{cases_eq, false≢true}
 use Rattle.peano_keys.specs.declared.cell.CellKey.{CellKey}
 use Rattle.peano_keys.specs.declared.dim.Dim.{Dim}
 use Rattle.peano_keys.specs.declared.dim.Dim.TheVariants.{Two, Three}
+use Rattle.peano_keys.specs.Dim.{children}
 use Rattle.peano_keys.specs.Cell.{IsCell, at, triple, parent_of}
 use Rattle.peano_keys.specs.Grid.{Spacetree, IsGrid, is_leaf, is_refined, has_cell}
 use Rattle.peano_keys.proofs.Powers.{pow3_positive}
-use Rattle.peano_curve.specs.Order.{children, rank_from, rank_of, interval_start}
+use Rattle.peano_curve.specs.Order.{rank_from, rank_of, interval_start}
 use Rattle.std.proofs.lemmas.Bool.{eqb-true}
 use Rattle.std.proofs.lemmas.List.{get_or_default, get_or_append_left, length-append}
 use Rattle.std.proofs.Math.Seq.{get_or-append_seam}

@@ -5,6 +5,7 @@ pub mod Shared
 pub mod Filled
 pub mod Leaves
 pub mod Nested
+pub mod Around
 pub mod Above
 pub mod Tiling
 pub mod Apart

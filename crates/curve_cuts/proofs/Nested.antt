@@ -4,8 +4,9 @@ use Rattle.std.proofs.Math.Nat.{pow-zero, mul-le-mul_right, lt_of_mul-lt-mul_lef
 use Rattle.std.proofs.lemmas.Nat.{pow-add}
 use Rattle.peano_keys.specs.declared.cell.CellKey.{CellKey}
 use Rattle.peano_keys.specs.declared.dim.Dim.{Dim}
+use Rattle.peano_keys.specs.Dim.{children}
 use Rattle.peano_keys.specs.Cell.{IsCell}
-use Rattle.peano_curve.specs.Order.{children, rank_of, width_of, interval_of}
+use Rattle.peano_curve.specs.Order.{rank_of, width_of, interval_of}
 use Rattle.peano_curve.specs.Run.{Holds}
 use Rattle.peano_curve.specs.Laws.{IsIn}
 use Rattle.peano_curve.proofs.Ranks.{width_positive}

@@ -3,11 +3,11 @@ use Rattle.std.proofs.Common.{◌≡◌, ◌≢◌, ◌⊎◌, inl, inr, ⊎_eli
 use Rattle.std.specs.Prelude.{IsSomeAnd}
 use Rattle.peano_keys.specs.declared.cell.CellKey.{CellKey}
 use Rattle.peano_keys.specs.declared.vertex.VertexKey.{VertexKey}
-use Rattle.peano_keys.specs.Dim.{corners}
+use Rattle.peano_keys.specs.Dim.{corners, children}
 use Rattle.peano_keys.specs.Cell.{IsCell, at}
 use Rattle.peano_keys.specs.Vertex.{IsVertex, adjacent_of}
 use Rattle.peano_keys.proofs.Positions.{touching_cells}
-use Rattle.peano_curve.specs.Order.{children, rank_of, interval_of}
+use Rattle.peano_curve.specs.Order.{rank_of, interval_of}
 use Rattle.peano_curve.proofs.Ranks.{width_positive, interval_within}
 use Rattle.peano_curve.proofs.Ancestors.{rank_bound}
 use Rattle.curve_cuts.specs.Cuts.{Cuts, AreCuts, range_of, HasPosition, IsShared}

@@ -8,9 +8,10 @@ use Rattle.std.proofs.lemmas.Nat.{pow-add}
 use Rattle.std.proofs.Math.Nat.{div-div-eq-div-mul}
 use Rattle.peano_keys.specs.declared.cell.CellKey.{CellKey}
 use Rattle.peano_keys.specs.declared.dim.Dim.{Dim}
+use Rattle.peano_keys.specs.Dim.{children}
 use Rattle.peano_keys.specs.Cell.{IsCell, at, triple, root, parent_of}
 use Rattle.peano_keys.specs.Grid.{Spacetree, IsGrid, is_leaf, is_refined, has_cell}
-use Rattle.peano_curve.specs.Order.{children, rank_of, interval_start, interval_of}
+use Rattle.peano_curve.specs.Order.{rank_of, interval_start, interval_of}
 use Rattle.peano_curve.specs.Run.{Holds}
 use Rattle.peano_curve.specs.Laws.{ancestor_of, IsIn}
 use Rattle.peano_curve.proofs.Ranks.{interval_within, width_positive}

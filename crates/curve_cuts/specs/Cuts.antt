@@ -3,11 +3,12 @@ use Rattle.std.specs.Prelude.{◌≡◌, ◌≢◌, ℕ, ◌+◌, ◌^◌, ◌<�
 use Rattle.peano_keys.specs.declared.dim.Dim.{Dim}
 use Rattle.peano_keys.specs.declared.cell.CellKey.{CellKey}
 use Rattle.peano_keys.specs.declared.vertex.VertexKey.{VertexKey}
+use Rattle.peano_keys.specs.Dim.{children}
 use Rattle.peano_keys.specs.Cell.{IsCell}
 use Rattle.peano_keys.specs.Vertex.{IsVertex, Touches}
 use Rattle.peano_keys.specs.Grid.{Spacetree, IsGrid, IsStored}
 use Rattle.peano_curve.specs.declared.range.Range.{Range}
-use Rattle.peano_curve.specs.Order.{children, centre_of}
+use Rattle.peano_curve.specs.Order.{centre_of}
 use Rattle.peano_curve.specs.Run.{Holds, HoldsCell}
 
 -- so many trees, each with the position where its range begins; the last range ends where one more would begin

@@ -2,8 +2,9 @@
 use Rattle.std.specs.Prelude.{◌≡◌, ℕ, ◌+◌, ◌-◌, ◌*◌, ◌/◌, ◌^◌, ◌<◌, ◌≤◌, List, length, slice_index, slice_index_or}
 use Rattle.peano_keys.specs.declared.dim.Dim.{Dim}
 use Rattle.peano_keys.specs.declared.cell.CellKey.{CellKey}
+use Rattle.peano_keys.specs.Dim.{children}
 use Rattle.peano_keys.specs.Cell.{root}
-use Rattle.peano_curve.specs.Order.{children, interval_start}
+use Rattle.peano_curve.specs.Order.{interval_start}
 use Rattle.curve_cuts.specs.Cuts.{Cuts, AreCuts}
 
 -- the dimension, the depth and the positions where ranges begin, and at last the number of all positions

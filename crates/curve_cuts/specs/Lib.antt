@@ -1,5 +1,6 @@
 pub mod Cuts
 pub mod Foreign
+pub mod Round
 pub mod Keys
 pub mod Leaves
 pub mod Tiles

@@ -2,8 +2,9 @@
 use Rattle.std.specs.Prelude.{◌≡◌, ℕ, zero, suc, ◌^◌, ◌<◌, ◌≤◌, List, length, slice_index_or}
 use Rattle.peano_keys.specs.declared.dim.Dim.{Dim}
 use Rattle.peano_keys.specs.declared.cell.CellKey.{CellKey}
+use Rattle.peano_keys.specs.Dim.{children}
 use Rattle.peano_keys.specs.Cell.{IsCell, root}
-use Rattle.peano_curve.specs.Order.{children, interval_start, interval_of}
+use Rattle.peano_curve.specs.Order.{interval_start, interval_of}
 use Rattle.curve_cuts.specs.Leaves.{InCurveOrder}
 
 -- cell number `i` of a list
@@ -23,9 +24,11 @@ pub record BeginsAt (dim : Dim) (depth : ℕ) (c : CellKey) (position : ℕ) : T
 
 -- cells tile the domain along the curve: each begins where those before it end, and the last ends with all positions
 pub record Tile (dim : Dim) (depth : ℕ) (cells : List CellKey) : Type 0 where
-  pub each : (i : ℕ) → i < length cells → BeginsAt dim depth (cell_in cells i) (end_of dim depth cells i)
+  pub each : (i : ℕ) → i < length cells
+      → BeginsAt dim depth (cell_in cells i) (end_of dim depth cells i)
   pub end : end_of dim depth cells (length cells) ≡ children dim ^ depth
 
 -- cells that tile the domain are the leaves of a grid in the order of the curve
 abbrev pub TilesAreLeaves : Type 0
-TilesAreLeaves = (dim : Dim) (depth : ℕ) (cells : List CellKey) → depth ≤ 12 → Tile dim depth cells → InCurveOrder dim depth cells
+TilesAreLeaves = (dim : Dim) (depth : ℕ) (cells : List CellKey) → depth ≤ 12 → Tile dim depth cells
+    → InCurveOrder dim depth cells

@@ -1,15 +1,17 @@
 //! The keys of trees: the positions along the curve where their ranges begin.
 ghost use Rattle.std.specs.Prelude.{◌≡◌, ◌≢◌, ℕ, ◌+◌, ◌-◌, ◌*◌, ◌/◌, ◌^◌, ◌<◌, ◌≤◌, ◌↔◌, IsTrue, IfOk, length};
-ghost use Rattle.peano_keys.specs.Dim.{corners};
+ghost use Rattle.peano_keys.specs.Dim.{corners, children};
 ghost use Rattle.peano_keys.specs.Cell.{IsCell};
 ghost use Rattle.peano_keys.specs.Vertex.{IsVertex};
-ghost use Rattle.peano_curve.specs.Order.{children};
+ghost use Rattle.peano_curve.specs.Order.{interval_of};
 ghost use Rattle.peano_curve.specs.Run.{Holds};
 ghost use Rattle.curve_cuts.specs.Cuts.{AreCuts, range_of, Held, Owns, IsShared};
 ghost use Rattle.curve_cuts.specs.Foreign.{IsForeign};
 ghost use Rattle.curve_cuts.specs.Keys.{cuts_of, AreEqualCuts};
 ghost use Rattle.curve_cuts.specs.Leaves.{InCurveOrder};
+ghost use Rattle.curve_cuts.specs.Round.{IsPartOf, SharesNoCorner};
 
+use crate::round::cell_round;
 use crate::tiles::positions;
 use peano_curve::{Range, centre, interval};
 use peano_keys::{CellKey, Dim, VertexKey, adjacent};
@@ -158,6 +160,36 @@ impl Keys {
         ensures { IsTrue result ↔ Held (cuts_of self.now) tree cell }
     {
         interval(self.dim, cell, self.depth).meets(&self.range(tree))
+    }
+
+    /// Whether a cell is whole in a tree's range.
+    pub fn is_whole(&self, cell: CellKey, tree: u32) -> bool
+        requires cell { IsCell self.now.dim cell }
+        requires level { cell.level ≤ self.now.depth }
+        requires tree { tree < (cuts_of self.now).trees }
+        ensures { IsTrue result → IsPartOf (interval_of self.now.dim cell self.now.depth) (range_of (cuts_of self.now) tree) }
+    {
+        let own = interval(self.dim, cell, self.depth);
+        let range = self.range(tree);
+        range.lo <= own.lo && own.hi <= range.hi
+    }
+
+    /// Whether a look at one coarser cell shows that no other tree holds a cell round a corner of a cell: there is one tree,
+    /// or the nearest cell above that has all of them in it is whole in the tree's range. It says no of some cells of which
+    /// that is so, those near a cut.
+    pub fn has_round(&self, cell: CellKey, tree: u32) -> bool
+        requires cell { IsCell self.now.dim cell }
+        requires level { cell.level ≤ self.now.depth }
+        requires tree { tree < (cuts_of self.now).trees }
+        ensures { IsTrue result → SharesNoCorner (cuts_of self.now) tree cell }
+    {
+        if self.trees() == 1 {
+            return true;
+        }
+        match cell_round(self.dim, cell) {
+            Some(around) => self.is_whole(around, tree),
+            None => false,
+        }
     }
 
     // Whether an adjacent position of a vertex, where it is inside the domain, has positions along the curve that are not

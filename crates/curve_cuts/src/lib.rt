@@ -4,6 +4,7 @@
 
 mod keys;
 pub mod laws;
+mod round;
 #[cfg(test)]
 mod tests;
 mod tiles;

@@ -1,23 +1,20 @@
 //! Lists of cells that tile the domain along the curve: the test of what keys are made from.
 ghost use Rattle.std.specs.Prelude.{◌≡◌, ◌^◌, ◌≤◌, ◌↔◌, IsTrue};
+ghost use Rattle.peano_keys.specs.Dim.{children};
 ghost use Rattle.peano_keys.specs.Cell.{IsCell};
-ghost use Rattle.peano_curve.specs.Order.{children, interval_start};
+ghost use Rattle.peano_curve.specs.Order.{interval_start};
 ghost use Rattle.curve_cuts.specs.Leaves.{InCurveOrder};
 ghost use Rattle.curve_cuts.specs.Tiles.{BeginsAt, Tile};
 
 use peano_curve::interval;
-use peano_keys::{CellKey, Dim, is_cell};
+use peano_keys::{CellKey, Dim, is_cell, root};
 
 // How many positions the depth has.
 pub(crate) fn positions(dim: Dim, depth: u32) -> u64
     requires { depth ≤ 12 }
     ensures { result ≡ children dim ^ depth }
 {
-    let root = CellKey {
-        level: 0,
-        x: [0, 0, 0],
-    };
-    interval(dim, root, depth).hi
+    interval(dim, root(), depth).hi
 }
 
 // Whether a key is a cell of a level down to the depth that begins at a position.

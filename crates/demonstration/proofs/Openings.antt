@@ -16,8 +16,9 @@ use Rattle.peano_keys.specs.Grid.{Spacetree, IsGrid}
 use Rattle.spacetree.specs.declared.shape.Fill.{Fill}
 use Rattle.spacetree.specs.declared.shape.Zone.{Zone}
 use Rattle.spacetree.specs.Leaves.{is_among}
-use Rattle.spacetree.specs.Opening.{Opens, OpensRefined, ZoneRefines, Overlaps, last_value, lies_in}
+use Rattle.spacetree.specs.Opening.{Opens, OpensRefined, ZoneRefines, last_value, lies_in}
 use Rattle.spacetree.proofs.Openings.{parent_opens, opens_above}
+use Rattle.spacetree.proofs.Zones.{Overlaps, decides_zone}
 use Rattle.demonstration.specs.Draws.{draw}
 use Rattle.demonstration.specs.Demo.{demo, fill_at, zone_at, zone_by}
 use Rattle.demonstration.specs.Laws.{OpensSmall, NeverTooLarge, OpensWithin, IsWithin}
@@ -44,7 +45,7 @@ length_family x y = length-append (block 3 x y 1 1) (block 4 (3 * x) (3 * y) 3 3
 
 -- a cell below the base that a box refines is one of these
 in_family : (x y : ℕ) (c : CellKey) → IsCell Two c → 3 ≤ c.level → ZoneRefines Two c (zone_by x y) → is_among (cell_and_children x y) c ≡ true
-in_family x y c cell deep h = elim (cases_eq c.level 3) [
+in_family x y c cell deep refines = let h = (decides_zone Two c (zone_by x y)).0 refines in elim (cases_eq c.level 3) [
   | inl e ↦
       let first : at c 0 ≡ x = meets_own (at c 0) x (subst (λ (l : ℕ). Overlaps l (at c 0) 3 x (x + 1)) e h.1.0) in
       let second : at c 1 ≡ y = meets_own (at c 1) y (subst (λ (l : ℕ). Overlaps l (at c 1) 3 y (y + 1)) e h.1.1) in

@@ -24,6 +24,7 @@ zone_by x y = record { level = 3; from = triple x y 0; to = triple (x + 1) (y + 
 abbrev pub drawn_fill : ℕ → Fill
 drawn_fill s = fill_by (draw s 0 25) (draw s 1 25) (draw s 2 2001)
 
+-- the box to refine that the next draws make
 abbrev pub drawn_zone : ℕ → Zone
 drawn_zone s = zone_by (draw s 0 27) (draw s 1 27)
 

@@ -11,6 +11,7 @@ use Rattle.demonstration.specs.Demo.{demo}
 abbrev pub number : ℕ → Data
 number n = integer (pos n)
 
+-- the two coordinates of a corner in a plane
 abbrev pub corner : List ℕ → Data
 corner x = array (item (number (slice_index x 0)) (item (number (slice_index x 1)) no_items))
 
@@ -19,6 +20,7 @@ abbrev pub fill_table : Fill → Members
 fill_table b = member (codes "from") (corner b.from) (member (codes "level") (number b.level) (member (codes "to") (corner b.to)
     (member (codes "value") (array (item (integer (value_at b.value 0)) no_items)) no_members)))
 
+-- the table of a box to refine
 abbrev pub zone_table : Zone → Members
 zone_table z = member (codes "from") (corner z.from) (member (codes "level") (number z.level) (member (codes "to") (corner z.to)
     (member (codes "until") (number z.until) no_members)))

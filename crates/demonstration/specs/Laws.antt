@@ -46,7 +46,8 @@ SeesWithin low high (Coarse s) = IsWithin low high s
 
 -- a leaf has a new value, and that lies where its own and those that it sees do: between the least and the greatest of them
 abbrev pub StaysBetween : Type 0
-StaysBetween = (low high : ℤ) (own : State) (sides : Sides) (level : ℕ) → FitsSigned w64 low → FitsSigned w64 high → level ≤ 5
+StaysBetween = (low high : ℤ) (own : State) (sides : Sides) (level : ℕ) → FitsSigned w64 low
+    → FitsSigned w64 high → level ≤ 5
     → IsWithin low high own → All (SeesWithin low high) (faces_of Two sides)
     → (new : State) × (updated_by demo_solver own sides level ≡ Some new) × IsWithin low high new
 
@@ -65,13 +66,15 @@ Leads = Evaluates (updated_by demo_solver) (marked_by demo_solver)
 
 -- after any number of steps all values lie where the opening ones and 0 do
 abbrev pub StaysThroughout : Type 0
-StaysThroughout = (n steps : ℕ) (low high : ℤ) (t : Spacetree) (f : States) (u : Spacetree) (g : States)
+StaysThroughout = (n steps : ℕ) (low high : ℤ) (t : Spacetree) (f : States) (u : Spacetree)
+    (g : States)
     → FitsSigned w64 low → FitsSigned w64 high → low ≤ℤ pos 0 → pos 0 ≤ℤ high
     → Begins n t f → HasWithin low high t f → Leads t f steps u g → HasWithin low high u g
 
 -- the opening values lie from -1000 to 1000
 abbrev pub OpensWithin : Type 0
-OpensWithin = (n : ℕ) (t : Spacetree) (f : States) → Begins n t f → HasWithin (negsuc 999) (pos 1000) t f
+OpensWithin = (n : ℕ) (t : Spacetree) (f : States) → Begins n t f
+    → HasWithin (negsuc 999) (pos 1000) t f
 
 -- no step overflows, and none is crowded
 abbrev pub NeverRefused : Type 0

@@ -4,36 +4,16 @@ ghost use Rattle.peano_keys.specs.Dim.{corners};
 ghost use Rattle.peano_keys.specs.Cell.{IsCell};
 ghost use Rattle.peano_keys.specs.Vertex.{IsVertex, corner_of};
 ghost use Rattle.peano_keys.specs.Grid.{Spacetree};
-ghost use Rattle.peano_records.specs.Tells.{slot_tells, corner_at};
+ghost use Rattle.peano_records.specs.Tells.{corner_at};
 ghost use Rattle.hanging_nodes.specs.Views.{Shows};
+ghost use Rattle.curve_cuts.specs.Cuts.{IsShared};
 ghost use Rattle.curve_cuts.specs.Keys.{cuts_of};
 ghost use Rattle.curve_cuts.specs.Enclave.{OwnsLeaf, IsEnclave, IsSkeleton};
 ghost use Rattle.enclave_marks.specs.Corners.{TellsRefined, ShowsBorder};
 
 use curve_cuts::Keys;
-use peano_keys::{Dim, VertexKey, adjacent, corner};
-use peano_records::{CellView, Corner, Intent, Slot, Status, Stored};
-
-// Whether a slot tells that its cell is refined.
-fn tells_refined(slot: Slot) -> bool
-    ensures { result ≡ slot_tells false slot }
-{
-    match slot.intent {
-        Intent::Stay => matches!(slot.status, Status::Refined),
-        Intent::Split => false,
-        Intent::Merge => true,
-    }
-}
-
-// How many corners a cell has, and so many positions a vertex.
-pub(crate) fn corner_count(dim: Dim) -> u32
-    ensures { result ≡ corners dim }
-{
-    match dim {
-        Dim::Two => 4,
-        Dim::Three => 8,
-    }
-}
+use peano_keys::{Dim, VertexKey, adjacent, corner, corner_count};
+use peano_records::{CellView, Corner, Stored};
 
 // Corner number `n` of a view.
 fn corner_in(view: &CellView, n: u32) -> &Corner
@@ -49,7 +29,7 @@ fn is_refined_at(dim: Dim, vertex: VertexKey, stored: &Stored, k: u32) -> bool
     requires position { k < corners dim }
     ensures { IsTrue result ↔ TellsRefined dim vertex stored.now k }
 {
-    adjacent(dim, vertex, k).is_some() && tells_refined(stored.slot(k))
+    stored.tells(k, false) && adjacent(dim, vertex, k).is_some()
 }
 
 // Whether a record tells of a refined cell round its vertex.
@@ -65,8 +45,10 @@ fn has_refined(dim: Dim, vertex: VertexKey, stored: &Stored) -> bool
     false
 }
 
-// Whether a corner shows a border: it hangs, another tree holds a position round it, or a refined cell is beside it.
-fn shows_border(keys: &Keys, tree: u32, vertex: VertexKey, corner: &Corner) -> bool
+// Whether a corner shows a border: it hangs, another tree holds a position round it, or a refined cell is beside it. Where
+// the corner is known to be the tree's alone, it is not asked for.
+fn shows_border(keys: &Keys, tree: u32, vertex: VertexKey, corner: &Corner, alone: bool) -> bool
+    requires alone { IsTrue alone → ¬ IsShared (cuts_of keys.now) tree vertex }
     requires vertex { IsVertex keys.now.dim vertex }
     requires level { vertex.level ≤ keys.now.depth }
     requires tree { tree < (cuts_of keys.now).trees }
@@ -74,7 +56,7 @@ fn shows_border(keys: &Keys, tree: u32, vertex: VertexKey, corner: &Corner) -> b
 {
     match corner {
         Corner::Vertex(stored) => {
-            keys.is_shared(vertex, tree) || has_refined(keys.dim(), vertex, stored)
+            (!alone && keys.is_shared(vertex, tree)) || has_refined(keys.dim(), vertex, stored)
         }
         _ => true,
     }
@@ -90,8 +72,15 @@ pub fn is_enclave(view: &CellView, keys: &Keys, tree: u32) -> bool
     ensures skeleton { (g : Spacetree) → g.dim ≡ keys.now.dim → Shows keys.now.dim (Some g) g false view.now → OwnsLeaf (cuts_of keys.now) g tree view.now.key → IsFalse result ↔ IsSkeleton (cuts_of keys.now) g tree view.now.key }
 {
     let dim = keys.dim();
+    let alone = keys.has_round(view.key, tree);
     for n in 0..corner_count(dim) {
-        if shows_border(keys, tree, corner(dim, view.key, n), corner_in(view, n)) {
+        if shows_border(
+            keys,
+            tree,
+            corner(dim, view.key, n),
+            corner_in(view, n),
+            alone,
+        ) {
             return false;
         }
     }

@@ -3,12 +3,12 @@ ghost use Rattle.std.specs.Prelude.{◌≡◌};
 ghost use Rattle.peano_keys.specs.Cell.{IsCell};
 ghost use Rattle.peano_keys.specs.Vertex.{IsVertex};
 
-use crate::enclave::corner_count;
 use crate::is_enclave;
 use curve_cuts::{Keys, is_tiling};
 use peano_curve::{Direction, first_child, next_child};
 use peano_keys::{
-    CellKey, Dim, Mark, Side, Sides, State, VertexKey, adjacent, corner, is_cell, parent,
+    CellKey, Dim, Mark, Side, Sides, State, VertexKey, adjacent, corner, corner_count, is_cell,
+    parent,
 };
 use peano_records::{CellView, Corner, Intent, Slot, Status, Stored};
 use std::alloc::{AllocError, Global};
@@ -174,12 +174,11 @@ fn leaf_counts(
     (enclave, skeleton)
 }
 
-// The counts of each tree, where the keys are those of another grid, as after steps.
+// The counts of each tree of a grid, where the keys are those of an opening grid.
 fn expect_under(
     rt: &impl Abort,
     alloc: Global,
-    dim: Dim,
-    depth: u32,
+    (dim, depth): (Dim, u32),
     opening: &[CellKey],
     refined: &[CellKey],
     want: &[(u32, u32)],
@@ -199,86 +198,63 @@ fn expect_under(
     Ok(())
 }
 
-fn expect(
-    rt: &impl Abort,
-    alloc: Global,
-    dim: Dim,
-    depth: u32,
-    refined: &[CellKey],
-    want: &[(u32, u32)],
-) -> Result<(), AllocError> {
-    expect_under(rt, alloc, dim, depth, refined, refined, want)
-}
+// The same of the grid that the keys are of, as a row: its dimension and depth, its refined cells, and the counts of each
+// tree.
+type Row<'a> = ((Dim, u32), &'a [CellKey], &'a [(u32, u32)]);
 
 #[test]
 fn counts_of_worked_grids(rt: HostRuntime) -> Result<(), AllocError> {
-    let alloc = rt.alloc();
     let root = cell(0, [0, 0, 0]);
     let centre = cell(1, [1, 1, 0]);
     let low = cell(1, [0, 0, 0]);
     let deep = cell(2, [3, 4, 0]);
     let inner = cell(1, [1, 1, 1]);
-    // one cell
-    expect(&rt, alloc, Dim::Two, 0, &[], &[(1, 0)])?;
-    expect(&rt, alloc, Dim::Two, 0, &[], &[(0, 0), (0, 0), (1, 0)])?;
-    // nine leaves
-    expect(&rt, alloc, Dim::Two, 1, &[root], &[(9, 0)])?;
-    expect(&rt, alloc, Dim::Two, 1, &[root], &[(0, 4), (1, 4)])?;
-    // the centre refined
-    expect(&rt, alloc, Dim::Two, 2, &[root, centre], &[(1, 16)])?;
-    expect(&rt, alloc, Dim::Two, 2, &[root, centre], &[(0, 8), (0, 9)])?;
-    // two cells refined
-    expect(&rt, alloc, Dim::Two, 2, &[root, low, centre], &[(5, 20)])?;
-    expect(
-        &rt,
-        alloc,
-        Dim::Two,
-        2,
-        &[root, low, centre],
-        &[(4, 8), (1, 12)],
-    )?;
-    // three levels
-    expect(&rt, alloc, Dim::Two, 3, &[root, centre, deep], &[(1, 24)])?;
-    expect(
-        &rt,
-        alloc,
-        Dim::Two,
-        3,
-        &[root, centre, deep],
-        &[(0, 12), (0, 13)],
-    )?;
-    // space
-    expect(&rt, alloc, Dim::Three, 1, &[root], &[(27, 0)])?;
-    expect(&rt, alloc, Dim::Three, 1, &[root], &[(0, 13), (1, 13)])?;
-    expect(&rt, alloc, Dim::Three, 2, &[root, inner], &[(1, 52)])?;
-    // the centre merged again: the cut stands inside a leaf
+    let table: [Row; 13] = [
+        // one cell
+        ((Dim::Two, 0), &[], &[(1, 0)]),
+        ((Dim::Two, 0), &[], &[(0, 0), (0, 0), (1, 0)]),
+        // nine leaves
+        ((Dim::Two, 1), &[root], &[(9, 0)]),
+        ((Dim::Two, 1), &[root], &[(0, 4), (1, 4)]),
+        // the centre refined
+        ((Dim::Two, 2), &[root, centre], &[(1, 16)]),
+        ((Dim::Two, 2), &[root, centre], &[(0, 8), (0, 9)]),
+        // two cells refined
+        ((Dim::Two, 2), &[root, low, centre], &[(5, 20)]),
+        ((Dim::Two, 2), &[root, low, centre], &[(4, 8), (1, 12)]),
+        // three levels
+        ((Dim::Two, 3), &[root, centre, deep], &[(1, 24)]),
+        ((Dim::Two, 3), &[root, centre, deep], &[(0, 12), (0, 13)]),
+        // space
+        ((Dim::Three, 1), &[root], &[(27, 0)]),
+        ((Dim::Three, 1), &[root], &[(0, 13), (1, 13)]),
+        ((Dim::Three, 2), &[root, inner], &[(1, 52)]),
+    ];
+    for (shape, refined, want) in table {
+        expect_under(&rt, rt.alloc(), shape, refined, refined, want)?;
+    }
+    Ok(())
+}
+
+#[test]
+fn counts_after_steps(rt: HostRuntime) -> Result<(), AllocError> {
+    let root = cell(0, [0, 0, 0]);
+    let centre = cell(1, [1, 1, 0]);
+    let shape = (Dim::Two, 2);
     let opening = [root, centre];
-    expect_under(
-        &rt,
-        alloc,
-        Dim::Two,
-        2,
-        &opening,
-        &[root],
-        &[(0, 4), (0, 5)],
-    )?;
+    // the centre merged again: the cut stands inside a leaf
+    let want = [(0, 4), (0, 5)];
+    expect_under(&rt, rt.alloc(), shape, &opening, &[root], &want)?;
     // and six of nine cells split after that
     let split = [
         root,
-        low,
+        cell(1, [0, 0, 0]),
         cell(1, [0, 1, 0]),
         cell(1, [0, 2, 0]),
         cell(1, [1, 0, 0]),
         centre,
         cell(1, [1, 2, 0]),
     ];
-    expect_under(
-        &rt,
-        alloc,
-        Dim::Two,
-        2,
-        &opening,
-        &split,
-        &[(24, 16), (2, 15)],
-    )
+    let want = [(24, 16), (2, 15)];
+    expect_under(&rt, rt.alloc(), shape, &opening, &split, &want)
 }

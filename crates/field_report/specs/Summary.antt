@@ -45,4 +45,5 @@ pub record IsSummary (n cells : ℕ) (rows : List Row) (text : List ℕ) : Type 
   pub high : ℤ
   pub is_low : IsLow rows low
   pub is_high : IsHigh rows high
-  pub lines : text ≡ demo_lines n ++ count_lines cells (length rows) ++ range_lines low high ++ flat_map (level_line rows) (0 ∷ 1 ∷ 2 ∷ 3 ∷ 4 ∷ 5 ∷ [])
+  pub lines : text
+      ≡ demo_lines n ++ count_lines cells (length rows) ++ range_lines low high ++ flat_map (level_line rows) (0 ∷ 1 ∷ 2 ∷ 3 ∷ 4 ∷ 5 ∷ [])

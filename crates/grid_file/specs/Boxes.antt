@@ -38,6 +38,7 @@ list_checks part checks d = key_check part 0 key.Whole (list_in d) ∷ in_each c
 abbrev pub level_in : ℕ → Members → Option ℕ
 level_in depth t = number_in 0 depth (at_key key.Level t)
 
+-- the level that the box has, 0 where none is right
 abbrev pub level_of : ℕ → Members → ℕ
 level_of depth t = unwrap_or (level_in depth t) 0
 
@@ -45,6 +46,7 @@ level_of depth t = unwrap_or (level_in depth t) 0
 abbrev pub lower_in : Dim → ℕ → Members → Option (List ℕ)
 lower_in dim level t = from_in dim level (at_key key.From t)
 
+-- the low corner that the box has, all zeros where none is right
 abbrev pub lower_of : Dim → ℕ → Members → List ℕ
 lower_of dim level t = unwrap_or (lower_in dim level t) (triple 0 0 0)
 
@@ -52,6 +54,7 @@ lower_of dim level t = unwrap_or (lower_in dim level t) (triple 0 0 0)
 abbrev pub upper_in : Dim → ℕ → List ℕ → Members → Option (List ℕ)
 upper_in dim level from t = to_in dim level from (at_key key.To t)
 
+-- the high corner that the box has, all zeros where none is right
 abbrev pub upper_of : Dim → ℕ → List ℕ → Members → List ℕ
 upper_of dim level from t = unwrap_or (upper_in dim level from t) (triple 0 0 0)
 
@@ -81,6 +84,7 @@ fill_from dim depth solver t =
     let value = unwrap_or (state_in solver (at_key key.Value t)) (Single (pos 0)) in
     record { level = b.level; from = b.from; to = b.to; value = value }
 
+-- what is checked of fill number `n`: the keys of its box, then its value
 abbrev pub fill_checks : Dim → ℕ → SolverName → ℕ → Members → List Check
 fill_checks dim depth solver n t =
     let value = state_in solver (at_key key.Value t) in
@@ -98,6 +102,7 @@ zone_from dim depth t =
     let b = box_of dim depth t in
     record { level = b.level; from = b.from; to = b.to; until = unwrap_or (until_in depth t) 0 }
 
+-- what is checked of box number `n` to refine: its keys as a box, then `until`
 abbrev pub zone_checks : Dim → ℕ → ℕ → Members → List Check
 zone_checks dim depth n t =
     box_checks dim depth Refine n t ++ key_check Refine n key.Until (until_in depth t) ∷ []

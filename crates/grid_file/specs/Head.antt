@@ -22,6 +22,7 @@ dim_of t = unwrap_or (dimension_in (at_key key.Dim t)) Two
 abbrev pub depth_in : Members → Option ℕ
 depth_in t = number_in 0 DEEPEST (at_key key.Depth t)
 
+-- the depth that the document has, 0 where none is right
 abbrev pub depth_of : Members → ℕ
 depth_of t = unwrap_or (depth_in t) 0
 
@@ -29,6 +30,7 @@ depth_of t = unwrap_or (depth_in t) 0
 abbrev pub base_in : ℕ → Members → Option ℕ
 base_in depth t = number_in 0 depth (at_key key.Base t)
 
+-- the base that the document has, 0 where none is right
 abbrev pub base_of : ℕ → Members → ℕ
 base_of depth t = unwrap_or (base_in depth t) 0
 
@@ -45,9 +47,11 @@ differ false b = b
 abbrev pub dim_checks : Members → List Check
 dim_checks t = key_check Document 0 key.Dim (dimension_in (at_key key.Dim t)) ∷ []
 
+-- code 5: the depth
 abbrev pub depth_checks : Members → List Check
 depth_checks t = key_check Document 0 key.Depth (depth_in t) ∷ []
 
+-- code 6: the base
 abbrev pub base_checks : ℕ → Members → List Check
 base_checks depth t = key_check Document 0 key.Base (base_in depth t) ∷ []
 

@@ -21,6 +21,7 @@ use Rattle.grid_file.specs.Boxes.{read_each, list_checks, fill_checks, fill_from
 abbrev pub steps_in : Members → Option ℕ
 steps_in t = number_in 0 MOST_STEPS (at_key key.Steps t)
 
+-- how many steps the document asks for, none where no number is right
 abbrev pub steps_of : Members → ℕ
 steps_of t = unwrap_or (steps_in t) 0
 
@@ -32,6 +33,7 @@ print_every_of t = unwrap_or (print_every_in (at_key key.PrintEvery t)) None
 abbrev pub steps_checks : Members → List Check
 steps_checks t = key_check Document 0 key.Steps (steps_in t) ∷ []
 
+-- code 14: how often a step is printed
 abbrev pub print_checks : Members → List Check
 print_checks t = key_check Document 0 key.PrintEvery (print_every_in (at_key key.PrintEvery t)) ∷ []
 
@@ -69,6 +71,7 @@ plan_from dim depth solver t =
       print_every = print_every_of t;
     }
 
+-- the plan of a document: that by its own dimension, depth and solver
 abbrev pub plan_in : Members → Plan
 plan_in t = plan_from (dim_of t) (depth_of t) (solver_of t) t
 

@@ -25,6 +25,7 @@ use Rattle.grid_file.specs.Keys.{at_key, key_check}
 abbrev pub a_in : Members → Option ℕ
 a_in t = number_or 0 0 MOST_RATE (at_key key.A t)
 
+-- the `a` that the solver has, 0 where none is right
 abbrev pub a_of : Members → ℕ
 a_of t = unwrap_or (a_in t) 0
 
@@ -32,6 +33,7 @@ a_of t = unwrap_or (a_in t) 0
 abbrev pub b_in : Members → Option ℕ
 b_in t = number_in 1 MOST_DIVISOR (at_key key.B t)
 
+-- the `b` that the solver has, 1 where none is right
 abbrev pub b_of : Members → ℕ
 b_of t = unwrap_or (b_in t) 1
 
@@ -58,6 +60,7 @@ rate_checks dim t =
 abbrev pub hi_in : Members → Option ℕ
 hi_in c = number_in 1 MOST_DIFFERENCE (at_key key.Hi c)
 
+-- the `hi` that the criterion has, 1 where none is right
 abbrev pub hi_of : Members → ℕ
 hi_of c = unwrap_or (hi_in c) 1
 
@@ -96,6 +99,7 @@ criterion_with depth solver c = record {
   depth = depth;
 }
 
+-- the criterion of a table, none where there is no table
 abbrev pub criterion_from : ℕ → SolverName → Option Members → Option criteria.Criterion
 criterion_from depth solver None = None
 criterion_from depth solver (Some c) = Some (criterion_with depth solver c)
@@ -114,6 +118,7 @@ fixed_of t = unwrap_or (fixed_in (at_key key.Edge t)) false
 abbrev pub rule_in : SolverName → Members → Option EdgeRule
 rule_in solver t = edge_in solver (fixed_of t) (at_key key.EdgeValue t)
 
+-- the rule at the edge that the solver has, to copy where none is right
 abbrev pub edge_of : SolverName → Members → EdgeRule
 edge_of solver t = unwrap_or (rule_in solver t) Copy
 

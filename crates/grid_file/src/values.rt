@@ -9,7 +9,7 @@ ghost use Rattle.grid_file.specs.Values.{parts_of, axes_seen, dimension_in, solv
 use crate::limits::{MOST_RATE, MOST_STEPS};
 use crate::solver::SolverName;
 use crate::tree::{items, number, number_or, text};
-use peano_keys::{Dim, State};
+use peano_keys::{Dim, State, extent};
 use toml::Value;
 use volume_solver::EdgeRule;
 
@@ -127,17 +127,6 @@ fn corner(dim: Dim, low: [u32; 3], high: u32, items: &[Value]) -> Option<[u32; 3
     let second = number(Some(y), u64::from(low[1]), high)?;
     let third = number_or(0, u64::from(low[2]), high, z)?;
     Some([first as u32, second as u32, third as u32])
-}
-
-// How many cells a level has on an axis.
-#[tactic(auto, using(peano_keys::proofs::Powers::pow3_by_12, peano_keys::proofs::Powers::pow3_positive))]
-fn extent(level: u32) -> u32
-    requires { level ≤ 12 }
-    ensures value { result ≡ 3 ^ level }
-    ensures least { 1 ≤ result }
-    ensures most { result ≤ 531441 }
-{
-    3u32.pow(level)
 }
 
 /// The low corner of a box: a cell of the level.

@@ -4,7 +4,7 @@ use Rattle.std.specs.Prelude.{MatchOption}
 use Rattle.std.proofs.lemmas.Bool.Decides.{nat_tests}
 use Rattle.std.proofs.Math.Nat.{pow-zero, pow-suc, mul-le-mul_right}
 use Rattle.peano_keys.specs.declared.cell.CellKey.{CellKey}
-use Rattle.peano_keys.specs.Dim.{third_extent}
+use Rattle.peano_keys.specs.Dim.{third_extent, children}
 use Rattle.peano_keys.specs.declared.dim.Dim.{Dim}
 use Rattle.peano_keys.specs.declared.dim.Dim.TheVariants.{Two, Three}
 use Rattle.peano_keys.proofs.Positions.{same_cell}
@@ -14,7 +14,7 @@ use Rattle.peano_keys.specs.Vertex.{Touches, corner_of}
 use Rattle.peano_curve.specs.declared.order.Direction.{Direction}
 use Rattle.peano_curve.specs.declared.order.Direction.TheVariants.{Forward, Backward}
 use Rattle.peano_curve.specs.declared.range.Range.{Range}
-use Rattle.peano_curve.specs.Order.{children, sibling_place, rank_of, width_of, interval_of}
+use Rattle.peano_curve.specs.Order.{sibling_place, rank_of, width_of, interval_of}
 use Rattle.peano_curve.specs.Run.{HoldsCell, InRun, Follows, IsLast, IsFirst}
 use Rattle.peano_curve.specs.Passing.{AreBeside, NoneLaterRound, NextRound}
 use Rattle.peano_curve.proofs.Ranks.{rank_of-step, width_positive}

@@ -46,7 +46,8 @@ pub record HasAll (r s : Range) : Type 0 where
 
 -- a range has the whole interval of a cell, and of each cell of its level that touches it
 abbrev pub HasAllRound : Dim → ℕ → Range → CellKey → Type 0
-HasAllRound dim depth r c = (q : CellKey) → IsCell dim q → AreBeside c q → HasAll r (interval_of dim q depth)
+HasAllRound dim depth r c = (q : CellKey) → IsCell dim q → AreBeside c q
+    → HasAll r (interval_of dim q depth)
 
 -- what a cell knows of the cells round it: how the curve crosses its faces, and where it says so, that the range has all round it
 pub record Surround (dir : Direction) (dim : Dim) (r : Range) (depth : ℕ) (c : CellKey) (s : Surroundings) : Type 0 where
@@ -62,4 +63,5 @@ pub record StandsBeside (c : CellKey) (j : ℕ) (q : CellKey) : Type 0 where
 
 -- a range has the interval of the cell at a place beside a cell, where one of the domain is there
 abbrev pub HasBeside : Dim → ℕ → Range → CellKey → ℕ → Type 0
-HasBeside dim depth r c j = (q : CellKey) → IsCell dim q → StandsBeside c j q → HasAll r (interval_of dim q depth)
+HasBeside dim depth r c j = (q : CellKey) → IsCell dim q → StandsBeside c j q
+    → HasAll r (interval_of dim q depth)

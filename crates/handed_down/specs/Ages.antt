@@ -7,7 +7,7 @@ use Rattle.peano_keys.specs.Cell.{at}
 use Rattle.peano_keys.specs.Vertex.{bit_of}
 use Rattle.peano_curve.specs.declared.order.Direction.{Direction}
 use Rattle.peano_curve.specs.declared.order.Direction.TheVariants.{Forward, Backward}
-use Rattle.peano_curve.specs.Order.{turned}
+use Rattle.stack_law.specs.Digits.{turned}
 use Rattle.sweep_visits.specs.Runs.{is_before, turned_round}
 use Rattle.handed_down.specs.declared.faces.Crossing.{Crossing}
 use Rattle.handed_down.specs.declared.faces.Crossing.TheVariants.{Wall, In, Out}

@@ -21,13 +21,17 @@ face_on_side a i up = if up then slice_index_or a.high i Wall else slice_index_o
 
 -- the curve goes out by a face exactly where the neighbour across it comes later, and in exactly where it comes earlier
 abbrev pub FacesTellOrder : Type 0
-FacesTellOrder = (dir : Direction) (dim : Dim) (c n : CellKey) (i : ℕ) (up : Bool) → IsCell dim c → i < axes dim → neighbour_of c (face_on i up) ≡ Some n →
-    ((0 < age_out (face_on_side (faces_of dir dim c) i up)) ↔ CellLater dir dim c n) × ((0 < age_in (face_on_side (faces_of dir dim c) i up)) ↔ CellLater dir dim n c)
+FacesTellOrder = (dir : Direction) (dim : Dim) (c n : CellKey) (i : ℕ) (up : Bool) → IsCell dim c
+    → i < axes dim → neighbour_of c (face_on i up) ≡ Some n
+    → ((0 < age_out (face_on_side (faces_of dir dim c) i up)) ↔ CellLater dir dim c n)
+    × ((0 < age_in (face_on_side (faces_of dir dim c) i up)) ↔ CellLater dir dim n c)
 
 -- where a range has all round a cell, it has all round its children
 abbrev pub WholeIsHandedDown : Type 0
-WholeIsHandedDown = (dim : Dim) (depth : ℕ) (r : Range) (c : CellKey) → IsCell dim c → 1 ≤ c.level → c.level ≤ depth → HasAllRound dim depth r (parent_of c) → HasAllRound dim depth r c
+WholeIsHandedDown = (dim : Dim) (depth : ℕ) (r : Range) (c : CellKey) → IsCell dim c → 1 ≤ c.level
+    → c.level ≤ depth → HasAllRound dim depth r (parent_of c) → HasAllRound dim depth r c
 
 -- a range that has the whole curve has all round the root
 abbrev pub WholeAtRoot : Type 0
-WholeAtRoot = (dim : Dim) (depth : ℕ) (r : Range) → HasAll r (interval_of dim root depth) → HasAllRound dim depth r root
+WholeAtRoot = (dim : Dim) (depth : ℕ) (r : Range) → HasAll r (interval_of dim root depth)
+    → HasAllRound dim depth r root

@@ -20,7 +20,8 @@ vertex_below c j = record { level = c.level + 1; v = triple (3 * at c 0 + j % 4)
 
 -- of the first `i` vertices of a cell's children it is told which are stored, in the old grid, or with `after` in the new one
 abbrev pub TellsBelow : Bool → Option Spacetree → Spacetree → CellKey → List Bool → ℕ → Type 0
-TellsBelow after old new c told i = (j : ℕ) → j < i → (slice_index_or told j false ≡ true) ↔ IsStoredIn after old new (vertex_below c j)
+TellsBelow after old new c told i = (j : ℕ) → j < i
+    → (slice_index_or told j false ≡ true) ↔ IsStoredIn after old new (vertex_below c j)
 
 -- what is told of one of the two grids
 abbrev pub told_of : ChildVertices → Bool → List Bool

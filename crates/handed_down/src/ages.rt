@@ -38,7 +38,9 @@ fn rises(dir: Direction, sum: u32) -> bool
 // The low face of a cell on an axis: its parent's where the cell begins there, else that to the sibling below.
 fn low_below(dir: Direction, level: u32, sum: u32, x: u32, above: Crossing) -> Crossing
     requires below_root { 1 ≤ level }
-    ensures { (p q : ℕ) → p + q ≡ sum → above ≡ crossing_of dir (level - 1) (p / 3) (q / 3) (x / 3) (x / 3 - 1) → result ≡ crossing_of dir level p q x (x - 1) }
+    ensures { (p q : ℕ) → p + q ≡ sum
+        → above ≡ crossing_of dir (level - 1) (p / 3) (q / 3) (x / 3) (x / 3 - 1)
+        → result ≡ crossing_of dir level p q x (x - 1) }
 {
     if x % 3 == 0 {
         above
@@ -52,7 +54,9 @@ fn low_below(dir: Direction, level: u32, sum: u32, x: u32, above: Crossing) -> C
 // The high face of a cell on an axis: its parent's where the cell ends there, else that to the sibling above.
 fn high_below(dir: Direction, level: u32, sum: u32, x: u32, above: Crossing) -> Crossing
     requires below_root { 1 ≤ level }
-    ensures { (p q : ℕ) → p + q ≡ sum → above ≡ crossing_of dir (level - 1) (p / 3) (q / 3) (x / 3) (x / 3 + 1) → result ≡ crossing_of dir level p q x (x + 1) }
+    ensures { (p q : ℕ) → p + q ≡ sum
+        → above ≡ crossing_of dir (level - 1) (p / 3) (q / 3) (x / 3) (x / 3 + 1)
+        → result ≡ crossing_of dir level p q x (x + 1) }
 {
     if x % 3 == 2 {
         above
@@ -124,7 +128,9 @@ fn youngest(first: u32, second: u32, third: u32) -> Option<u32>
 /// plane, and of the greatest axis among equals.
 pub fn next_axis(faces: &Faces, n: u32) -> Option<u32>
     requires { n < 8 }
-    ensures { (dir : Direction) (dim : Dim) (c : CellKey) → IsCell dim c → n < corners dim → faces.now ≡ faces_of dir dim c → MatchOption result (NoneLaterRound dir dim (corner_of c n) c) (λ i. NextAcross dir dim c n i) }
+    ensures { (dir : Direction) (dim : Dim) (c : CellKey) → IsCell dim c → n < corners dim
+        → faces.now ≡ faces_of dir dim c
+        → MatchOption result (NoneLaterRound dir dim (corner_of c n) c) (λ i. NextAcross dir dim c n i) }
 {
     youngest(
         faces.age_out(n, 0),
@@ -137,7 +143,9 @@ pub fn next_axis(faces: &Faces, n: u32) -> Option<u32>
 /// which is the next one the other way; none where no cell round the corner comes earlier.
 pub fn previous_axis(faces: &Faces, n: u32) -> Option<u32>
     requires { n < 8 }
-    ensures { (dir : Direction) (dim : Dim) (c : CellKey) → IsCell dim c → n < corners dim → faces.now ≡ faces_of dir dim c → MatchOption result (NoneLaterRound (turned_round dir) dim (corner_of c n) c) (λ i. NextAcross (turned_round dir) dim c n i) }
+    ensures { (dir : Direction) (dim : Dim) (c : CellKey) → IsCell dim c → n < corners dim
+        → faces.now ≡ faces_of dir dim c
+        → MatchOption result (NoneLaterRound (turned_round dir) dim (corner_of c n) c) (λ i. NextAcross (turned_round dir) dim c n i) }
 {
     youngest(faces.age_in(n, 0), faces.age_in(n, 1), faces.age_in(n, 2))
 }

@@ -27,8 +27,11 @@ fn held_across(
     requires above { cell.level ≤ depth }
     requires depth { depth ≤ 12 }
     requires corner { n < 8 }
-    requires next { (dir : Direction) × MatchOption next (NoneLaterRound dir dim (corner_of cell n) cell) (λ i. NextAcross dir dim cell n i) }
-    ensures { (dir : Direction) → MatchOption next (NoneLaterRound dir dim (corner_of cell n) cell) (λ i. NextAcross dir dim cell n i) → MatchOption result (IsLast dir dim (corner_of cell n) range.now depth cell) (λ i. FollowsAcross dir dim range.now depth cell n i) }
+    requires next { (dir : Direction)
+        × MatchOption next (NoneLaterRound dir dim (corner_of cell n) cell) (λ i. NextAcross dir dim cell n i) }
+    ensures { (dir : Direction)
+        → MatchOption next (NoneLaterRound dir dim (corner_of cell n) cell) (λ i. NextAcross dir dim cell n i)
+        → MatchOption result (IsLast dir dim (corner_of cell n) range.now depth cell) (λ i. FollowsAcross dir dim range.now depth cell n i) }
 {
     let axis = next?;
     let face = Face {

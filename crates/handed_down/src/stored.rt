@@ -58,7 +58,10 @@ fn is_stored(dim: Dim, parent: &CellView, after: bool, told: &[bool; 64], i: u32
     requires vertex { i < count_below dim }
     requires below { i < 64 }
     requires shape { length told.now ≡ 64 }
-    ensures { (depth : ℕ) (old : Option Spacetree) (new : Spacetree) → AreGrids depth dim old new after → Shows dim old new after parent.now → TellsBelow after old new parent.now.key told.now i → IsTrue result ↔ IsStoredIn after old new (vertex_below parent.now.key i) }
+    ensures { (depth : ℕ) (old : Option Spacetree) (new : Spacetree)
+        → AreGrids depth dim old new after → Shows dim old new after parent.now
+        → TellsBelow after old new parent.now.key told.now i
+        → IsTrue result ↔ IsStoredIn after old new (vertex_below parent.now.key i) }
 {
     if i % 4 == 2 {
         return told[i as usize - 1];
@@ -78,7 +81,9 @@ pub fn stored_below(dim: Dim, parent: &CellView, after: bool) -> [bool; 64]
     requires cell { IsCell dim parent.now.key }
     requires room { parent.now.key.level < 12 }
     ensures shape { length result ≡ 64 }
-    ensures told { (depth : ℕ) (old : Option Spacetree) (new : Spacetree) → AreGrids depth dim old new after → Shows dim old new after parent.now → TellsBelow after old new parent.now.key result (count_below dim) }
+    ensures told { (depth : ℕ) (old : Option Spacetree) (new : Spacetree)
+        → AreGrids depth dim old new after → Shows dim old new after parent.now
+        → TellsBelow after old new parent.now.key result (count_below dim) }
 {
     let mut told = [false; 64];
     for i in 0..count(dim) {
@@ -109,7 +114,9 @@ pub fn is_corner_stored(dim: Dim, told: &ChildVertices, after: bool, cell: CellK
     requires below_root { 1 ≤ cell.level }
     requires corner { n < corners dim }
     requires shape { length (told_of told.now after) ≡ 64 }
-    ensures { (old : Option Spacetree) (new : Spacetree) → TellsAll dim after old new (parent_of cell) told.now → IsTrue result ↔ IsStoredIn after old new (corner_of cell n) }
+    ensures { (old : Option Spacetree) (new : Spacetree)
+        → TellsAll dim after old new (parent_of cell) told.now
+        → IsTrue result ↔ IsStoredIn after old new (corner_of cell n) }
 {
     let place = number(dim, cell, n) as usize;
     if after {

@@ -11,7 +11,7 @@ ghost use Rattle.handed_down.specs.Across.{HasAll, HasAllRound, HasBeside, Stand
 use crate::ages::{faces_below, root_faces};
 use crate::faces::Faces;
 use peano_curve::{Direction, Range, interval};
-use peano_keys::{CellKey, Dim, parent};
+use peano_keys::{CellKey, Dim, extent, parent};
 
 /// What a cell knows of the cells of its level round it: how the curve crosses its faces, and whether the range is known to
 /// have the whole intervals of the cell and of all cells that touch it. Far from a cut the second is handed down; near one it
@@ -44,9 +44,10 @@ fn third_end(dim: Dim, end: u32) -> u32
 fn beside(dim: Dim, cell: CellKey, j: u32) -> Option<CellKey>
     requires cell { IsCell dim cell }
     requires place { j < 27 }
-    ensures { MatchOption result ((q : CellKey) → IsCell dim q → ¬ StandsBeside cell j q) (λ q. IsCell dim q × StandsBeside cell j q) }
+    ensures { MatchOption result ((q : CellKey) → IsCell dim q
+        → ¬ StandsBeside cell j q) (λ q. IsCell dim q × StandsBeside cell j q) }
 {
-    let end = 3u32.pow(cell.level);
+    let end = extent(cell.level);
     let third = third_end(dim, end);
     // each coordinate of the place, moved up by one
     let x0 = cell.x[0] + j % 3;
@@ -104,13 +105,9 @@ impl Surroundings {
         requires depth { depth ≤ 12 }
         ensures { (dir : Direction) → Surround dir dim range.now depth root result }
     {
-        let root = CellKey {
-            level: 0,
-            x: [0; 3],
-        };
         Surroundings {
             faces: root_faces(),
-            whole: has_all(range, &interval(dim, root, depth)),
+            whole: has_all(range, &interval(dim, peano_keys::root(), depth)),
         }
     }
 
@@ -118,7 +115,9 @@ impl Surroundings {
     pub fn below(&self, dim: Dim, dir: Direction, cell: CellKey) -> Surroundings
         requires cell { IsCell dim cell }
         requires below_root { 1 ≤ cell.level }
-        ensures { (range : Range) (depth : ℕ) → cell.level ≤ depth → Surround dir dim range depth (parent_of cell) self.now → Surround dir dim range depth cell result }
+        ensures { (range : Range) (depth : ℕ) → cell.level ≤ depth
+            → Surround dir dim range depth (parent_of cell) self.now
+            → Surround dir dim range depth cell result }
     {
         Surroundings {
             faces: faces_below(dim, dir, &self.faces, cell),
@@ -151,7 +150,8 @@ impl Surroundings {
         requires cell { IsCell dim cell }
         requires above { cell.level ≤ depth }
         requires depth { depth ≤ 12 }
-        ensures same { (dir : Direction) → Surround dir dim range.now depth cell self.now → Surround dir dim range.now depth cell result }
+        ensures same { (dir : Direction) → Surround dir dim range.now depth cell self.now
+            → Surround dir dim range.now depth cell result }
         ensures whole { self.now.whole ≡ true → result.whole ≡ true }
         ensures looked { HasAllRound dim depth range.now cell → result.whole ≡ true }
     {

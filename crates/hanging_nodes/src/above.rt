@@ -10,7 +10,7 @@ ghost use Rattle.hanging_nodes.specs.Above.{HoldsVertex, plane_above, corner_abo
 ghost use Rattle.hanging_nodes.specs.Views.{AreGrids, Shows, IsStoredIn};
 
 use crate::corner_in::corner_in;
-use peano_keys::{CellKey, Dim, VertexKey, adjacent, corner};
+use peano_keys::{CellKey, Dim, VertexKey, adjacent, corner, corner_count};
 use peano_records::{CellView, Corner, Stored};
 
 // The bit of the corner that decides, on one axis.
@@ -92,21 +92,12 @@ fn allows(question: Question, above: VertexKey, stored: &Stored, k: u32) -> bool
     requires position { k < corners question.dim }
     ensures { IsTrue result ↔ IfSome (adjacent_of question.dim (corner_above question.cell question.fine) k) (λ q. IsDecider question.dim question.cell question.fine q → slot_tells question.after (slot_at stored.now k) ≡ true) }
 {
+    if stored.tells(k, question.after) {
+        return true;
+    }
     match adjacent(question.dim, above, k) {
         None => true,
-        Some(other) => {
-            !holds_vertex(question.dim, other, &question.fine) || stored.tells(k, question.after)
-        }
-    }
-}
-
-// How many corners a cell has.
-pub(crate) fn corner_count(dim: Dim) -> u32
-    ensures { result ≡ corners dim }
-{
-    match dim {
-        Dim::Two => 4,
-        Dim::Three => 8,
+        Some(other) => !holds_vertex(question.dim, other, &question.fine),
     }
 }
 

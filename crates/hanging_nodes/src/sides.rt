@@ -33,7 +33,8 @@ fn turned_round(face: Face) -> Face
 }
 
 // What a child sees across a face, from the parent's side there and the child's corners: where the anchor is stored
-// the neighbour is a cell, and its slot there has its value.
+// the neighbour is a cell, and its slot there has its value. Each call has a face of its own, so much of it is known before.
+#[inline(always)]
 fn side_across(dim: Dim, child: CellKey, above: &Side, corners: &[Corner; 8], face: Face) -> Side
     requires cell { IsCell dim child }
     requires below { 1 ≤ child.level }

@@ -3,12 +3,14 @@ ghost use Rattle.std.specs.Prelude.{◌≡◌, ◌<◌, ◌≤◌};
 ghost use Rattle.peano_keys.specs.Cell.{IsCell};
 ghost use Rattle.peano_keys.specs.Vertex.{IsVertex};
 
-use crate::above::{corner_count, holds_vertex};
+use crate::above::holds_vertex;
 use crate::{sides_of, stored_here};
 use peano_keys::{
-    CellKey, Dim, Mark, Side, Sides, State, VertexKey, adjacent, corner, is_cell, is_vertex,
+    CellKey, Dim, Mark, Side, Sides, State, VertexKey, adjacent, corner, corner_count, is_cell,
+    is_vertex,
 };
 use peano_records::{CellView, Corner, Intent, Slot, Status, Stored};
+use std::process::Abort;
 
 // The grids of the tests, as the slots of their cells tell them.
 #[derive(Clone, Copy, Debug)]
@@ -124,232 +126,137 @@ const NONE_HANGS: [bool; 8] = [false; 8];
 
 const HIGH_FIRST_HANGS: [bool; 8] = [false, true, false, true, false, false, false, false];
 
-#[test]
-fn stored_vertices_from_above(rt: HostRuntime) {
-    // A cell, which of its corners hang, a vertex of its children, and whether it is stored before and after.
-    for (scene, level, x, hanging, v, before, after) in [
-        // a refined root: all vertices of level 1
-        (
-            Scene::ThreeLevels,
-            0,
-            [0, 0, 0],
-            NONE_HANGS,
-            [0, 0, 0],
-            true,
-            true,
-        ),
-        (
-            Scene::ThreeLevels,
-            0,
-            [0, 0, 0],
-            NONE_HANGS,
-            [3, 3, 0],
-            true,
-            true,
-        ),
-        (
-            Scene::ThreeLevels,
-            0,
-            [0, 0, 0],
-            NONE_HANGS,
-            [1, 2, 0],
-            true,
-            true,
-        ),
-        // at the domain's corner, with leaves on two sides
-        (
-            Scene::ThreeLevels,
-            1,
-            [0, 0, 0],
-            NONE_HANGS,
-            [0, 2, 0],
-            true,
-            true,
-        ),
-        (
-            Scene::ThreeLevels,
-            1,
-            [0, 0, 0],
-            NONE_HANGS,
-            [2, 2, 0],
-            true,
-            true,
-        ),
-        (
-            Scene::ThreeLevels,
-            1,
-            [0, 0, 0],
-            NONE_HANGS,
-            [3, 1, 0],
-            false,
-            false,
-        ),
-        (
-            Scene::ThreeLevels,
-            1,
-            [0, 0, 0],
-            NONE_HANGS,
-            [3, 3, 0],
-            false,
-            false,
-        ),
-        // two corners hang
-        (
-            Scene::ThreeLevels,
-            2,
-            [2, 0, 0],
-            HIGH_FIRST_HANGS,
-            [7, 1, 0],
-            true,
-            true,
-        ),
-        (
-            Scene::ThreeLevels,
-            2,
-            [2, 0, 0],
-            HIGH_FIRST_HANGS,
-            [8, 0, 0],
-            true,
-            true,
-        ),
-        (
-            Scene::ThreeLevels,
-            2,
-            [2, 0, 0],
-            HIGH_FIRST_HANGS,
-            [6, 1, 0],
-            false,
-            false,
-        ),
-        (
-            Scene::ThreeLevels,
-            2,
-            [2, 0, 0],
-            HIGH_FIRST_HANGS,
-            [7, 3, 0],
-            false,
-            false,
-        ),
-        (
-            Scene::ThreeLevels,
-            2,
-            [2, 0, 0],
-            HIGH_FIRST_HANGS,
-            [9, 1, 0],
-            false,
-            false,
-        ),
-        // the centre merges: its inner vertices go, and those on its faces were never stored
-        (
-            Scene::Step,
-            1,
-            [1, 1, 0],
-            NONE_HANGS,
-            [4, 4, 0],
-            true,
-            false,
-        ),
-        (
-            Scene::Step,
-            1,
-            [1, 1, 0],
-            NONE_HANGS,
-            [5, 4, 0],
-            true,
-            false,
-        ),
-        (
-            Scene::Step,
-            1,
-            [1, 1, 0],
-            NONE_HANGS,
-            [3, 4, 0],
-            false,
-            false,
-        ),
-        (
-            Scene::Step,
-            1,
-            [1, 1, 0],
-            NONE_HANGS,
-            [6, 6, 0],
-            false,
-            false,
-        ),
-        // a leaf beside it splits: its inner vertices come, and those on the domain's edge
-        (
-            Scene::Step,
-            1,
-            [0, 1, 0],
-            NONE_HANGS,
-            [1, 4, 0],
-            false,
-            true,
-        ),
-        (
-            Scene::Step,
-            1,
-            [0, 1, 0],
-            NONE_HANGS,
-            [0, 5, 0],
-            false,
-            true,
-        ),
-        (
-            Scene::Step,
-            1,
-            [0, 1, 0],
-            NONE_HANGS,
-            [0, 3, 0],
-            false,
-            false,
-        ),
-        (
-            Scene::Step,
-            1,
-            [0, 1, 0],
-            NONE_HANGS,
-            [3, 4, 0],
-            false,
-            false,
-        ),
-    ] {
-        let key = CellKey { level, x };
-        assert!(rt; is_cell(Dim::Two, &key));
-        assert!(rt; level < 12);
+fn cell(level: u32, x: [u32; 3]) -> CellKey {
+    CellKey { level, x }
+}
+
+// Vertices of a cell's children, and whether the cell's view tells each to be stored before and after.
+fn expect_stored(
+    rt: &impl Abort,
+    scene: Scene,
+    key: CellKey,
+    hanging: [bool; 8],
+    rows: &[([u32; 3], bool, bool)],
+) {
+    assert!(rt; is_cell(Dim::Two, &key));
+    assert!(rt; key.level < 12);
+    let parent = view(Dim::Two, key, scene, hanging, edges());
+    for (v, before, after) in rows {
         let fine = VertexKey {
-            level: level + 1,
-            v,
+            level: key.level + 1,
+            v: *v,
         };
         assert!(rt; is_vertex(Dim::Two, &fine));
         assert!(rt; holds_vertex(Dim::Two, key, &fine));
-        let parent = view(Dim::Two, key, scene, hanging, edges());
-        assert_eq!(rt;
+        let told = [
             stored_here(Dim::Two, &parent, &fine, false),
-            before,
-            "{key:?} {v:?}"
-        );
-        assert_eq!(rt;
             stored_here(Dim::Two, &parent, &fine, true),
-            after,
-            "{key:?} {v:?}"
-        );
+        ];
+        assert_eq!(rt; told, [*before, *after], "{key:?} {v:?}");
     }
 }
 
 #[test]
-fn sides_from_above(rt: HostRuntime) {
+fn stored_vertices_of_three_levels(rt: HostRuntime) {
+    // a refined root: all vertices of level 1
+    let rows = [
+        ([0, 0, 0], true, true),
+        ([3, 3, 0], true, true),
+        ([1, 2, 0], true, true),
+    ];
+    expect_stored(
+        &rt,
+        Scene::ThreeLevels,
+        cell(0, [0, 0, 0]),
+        NONE_HANGS,
+        &rows,
+    );
+    // at the domain's corner, with leaves on two sides
+    let rows = [
+        ([0, 2, 0], true, true),
+        ([2, 2, 0], true, true),
+        ([3, 1, 0], false, false),
+        ([3, 3, 0], false, false),
+    ];
+    expect_stored(
+        &rt,
+        Scene::ThreeLevels,
+        cell(1, [0, 0, 0]),
+        NONE_HANGS,
+        &rows,
+    );
+    // two corners hang
+    let rows = [
+        ([7, 1, 0], true, true),
+        ([8, 0, 0], true, true),
+        ([6, 1, 0], false, false),
+        ([7, 3, 0], false, false),
+        ([9, 1, 0], false, false),
+    ];
+    expect_stored(
+        &rt,
+        Scene::ThreeLevels,
+        cell(2, [2, 0, 0]),
+        HIGH_FIRST_HANGS,
+        &rows,
+    );
+}
+
+#[test]
+fn stored_vertices_before_and_after_a_step(rt: HostRuntime) {
+    // the centre merges: its inner vertices go, and those on its faces were never stored
+    let rows = [
+        ([4, 4, 0], true, false),
+        ([5, 4, 0], true, false),
+        ([3, 4, 0], false, false),
+        ([6, 6, 0], false, false),
+    ];
+    expect_stored(&rt, Scene::Step, cell(1, [1, 1, 0]), NONE_HANGS, &rows);
+    // a leaf beside it splits: its inner vertices come, and those on the domain's edge
+    let rows = [
+        ([1, 4, 0], false, true),
+        ([0, 5, 0], false, true),
+        ([0, 3, 0], false, false),
+        ([3, 4, 0], false, false),
+    ];
+    expect_stored(&rt, Scene::Step, cell(1, [0, 1, 0]), NONE_HANGS, &rows);
+}
+
+// The sides that a child sees through a view of its parent with these sides.
+fn expect_sides(
+    rt: &impl Abort,
+    scene: Scene,
+    (parent, above): (CellKey, Sides),
+    child: CellKey,
+    hanging: [bool; 8],
+    want: Sides,
+) {
+    let dim = match scene {
+        Scene::Space => Dim::Three,
+        Scene::ThreeLevels | Scene::Step => Dim::Two,
+    };
+    assert!(rt; is_cell(dim, &child));
+    assert!(rt; child.level >= 1);
+    assert!(rt; is_cell(dim, &parent));
+    let parent = view(dim, parent, scene, NONE_HANGS, above);
+    let corners = places(dim, child, scene, hanging);
+    assert_eq!(rt; sides_of(dim, child, &parent, &corners), want, "{child:?}");
+}
+
+// On the high side of axis 0 of the second and the third cell stands one leaf of level 1.
+#[test]
+fn sides_of_three_levels(rt: HostRuntime) {
     let outer = Side::Same(State::two(70, 1));
     let coarse = Side::Coarse(State::two(70, 1));
-    let of_first = Sides {
+    let first = Sides {
         low: [Side::Edge; 3],
         high: [outer, Side::Same(State::two(80, 1)), Side::Edge],
     };
-    let of_second = Sides {
+    let second = Sides {
         low: [Side::Same(State::two(100, 2)), Side::Edge, Side::Edge],
         high: [coarse, Side::Same(State::two(210, 2)), Side::Edge],
     };
-    let of_third = Sides {
+    let third = Sides {
         low: [
             Side::Same(State::two(710, 3)),
             Side::Same(State::two(800, 3)),
@@ -357,7 +264,15 @@ fn sides_from_above(rt: HostRuntime) {
         ],
         high: [coarse, Side::Same(State::two(820, 3)), Side::Edge],
     };
-    let in_space = Sides {
+    let [low, middle, deep] = [cell(1, [0, 0, 0]), cell(2, [2, 0, 0]), cell(3, [8, 1, 0])];
+    let scene = Scene::ThreeLevels;
+    expect_sides(&rt, scene, (low, first), middle, HIGH_FIRST_HANGS, second);
+    expect_sides(&rt, scene, (middle, second), deep, HIGH_FIRST_HANGS, third);
+}
+
+#[test]
+fn sides_in_space(rt: HostRuntime) {
+    let want = Sides {
         low: [
             Side::Edge,
             Side::Same(State::two(2, 1)),
@@ -369,50 +284,13 @@ fn sides_from_above(rt: HostRuntime) {
             Side::Edge,
         ],
     };
-    // A parent and its sides, a child and which of its corners hang, and the child's sides. On the high side of axis 0
-    // of the second and the third cell stands one leaf of level 1.
-    for (dim, scene, up, above, level, x, hanging, want) in [
-        (
-            Dim::Two,
-            Scene::ThreeLevels,
-            [0, 0, 0],
-            of_first,
-            2,
-            [2, 0, 0],
-            HIGH_FIRST_HANGS,
-            of_second,
-        ),
-        (
-            Dim::Two,
-            Scene::ThreeLevels,
-            [2, 0, 0],
-            of_second,
-            3,
-            [8, 1, 0],
-            HIGH_FIRST_HANGS,
-            of_third,
-        ),
-        (
-            Dim::Three,
-            Scene::Space,
-            [0, 0, 0],
-            edges(),
-            1,
-            [0, 1, 2],
-            NONE_HANGS,
-            in_space,
-        ),
-    ] {
-        let child = CellKey { level, x };
-        assert!(rt; is_cell(dim, &child));
-        assert!(rt; level >= 1);
-        let key = CellKey {
-            level: level - 1,
-            x: up,
-        };
-        assert!(rt; is_cell(dim, &key));
-        let parent = view(dim, key, scene, NONE_HANGS, above);
-        let corners = places(dim, child, scene, hanging);
-        assert_eq!(rt; sides_of(dim, child, &parent, &corners), want, "{child:?}");
-    }
+    let root = (cell(0, [0, 0, 0]), edges());
+    expect_sides(
+        &rt,
+        Scene::Space,
+        root,
+        cell(1, [0, 1, 2]),
+        NONE_HANGS,
+        want,
+    );
 }

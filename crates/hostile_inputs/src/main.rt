@@ -6,8 +6,11 @@ ghost use Rattle.std.specs.Prelude.{◌≡◌, false};
 
 use peano_io::{CutSink, CutSource, MemSink, Source, SureSource};
 use peano_run::run;
-use std::alloc::{AllocError, Global};
+use std::alloc::{Alloc, AllocError, Global};
+use std::fs::Files;
+use std::thread::Threads;
 use std::{env, fs, io};
+use task_pool::Through;
 
 // Room for each report of this program's files, in bytes.
 const ROOM: usize = 1_000;
@@ -43,12 +46,17 @@ impl Left {
 }
 
 // Runs an input, with a report's sink that takes so many bytes.
-fn run_into<S: Source + Drop>(alloc: Global, mut input: S, room: usize) -> Result<Left, AllocError>
+fn run_into<R: Threads + Sync + Alloc<A = Global>, S: Source + Drop>(
+    rt: &R,
+    mut input: S,
+    room: usize,
+) -> Result<Left, AllocError>
     requires { S.ended input ≡ false }
 {
+    let alloc = rt.alloc();
     let mut report = CutSink::new(alloc, room.min(LONGEST) as u64)?;
     let mut text = MemSink::new(alloc, TEXT, TEXT, Vec::new(alloc))?;
-    let outcome = run(alloc, &[], &mut input, &mut report, &mut text);
+    let outcome = run(rt, alloc, &[], &mut input, &mut report, &mut text, &Through);
     Ok(Left {
         status: outcome.status,
         text,
@@ -57,14 +65,22 @@ fn run_into<S: Source + Drop>(alloc: Global, mut input: S, room: usize) -> Resul
 }
 
 // Runs an input that can be read up to a cut.
-fn run_cut(alloc: Global, bytes: Vec<u8>, cut: usize) -> Result<Left, AllocError> {
+fn run_cut<R: Threads + Sync + Alloc<A = Global>>(
+    rt: &R,
+    bytes: Vec<u8>,
+    cut: usize,
+) -> Result<Left, AllocError> {
     let cut = cut.min(bytes.len()) as u64;
-    run_into(alloc, CutSource::new(bytes, cut), ROOM)
+    run_into(rt, CutSource::new(bytes, cut), ROOM)
 }
 
 // Runs an input that can be read whole.
-fn run_whole(alloc: Global, bytes: Vec<u8>, room: usize) -> Result<Left, AllocError> {
-    run_into(alloc, SureSource::new(bytes), room)
+fn run_whole<R: Threads + Sync + Alloc<A = Global>>(
+    rt: &R,
+    bytes: Vec<u8>,
+    room: usize,
+) -> Result<Left, AllocError> {
+    run_into(rt, SureSource::new(bytes), room)
 }
 
 // A file that a comment fills up to this length.
@@ -75,10 +91,14 @@ fn filled(alloc: Global, file: &[u8], length: usize) -> Result<Vec<u8>, AllocErr
 }
 
 // At how many cuts, from 0 to its length, a file is a read fault without a report.
-fn count_read_faults(alloc: Global, file: &[u8]) -> Result<u64, AllocError> {
+fn count_read_faults<R: Threads + Sync + Alloc<A = Global>>(
+    rt: &R,
+    file: &[u8],
+) -> Result<u64, AllocError> {
+    let alloc = rt.alloc();
     let mut count: u64 = 0;
     for cut in 0..=file.len() {
-        let left = run_cut(alloc, file.to_vec(alloc)?, cut)?;
+        let left = run_cut(rt, file.to_vec(alloc)?, cut)?;
         if left.is(3, "read fault\n", &[]) {
             count = count.saturating_add(1);
         }
@@ -87,10 +107,15 @@ fn count_read_faults(alloc: Global, file: &[u8]) -> Result<u64, AllocError> {
 }
 
 // At how many cuts, from 0 to below its length, a report is a write fault after exactly the bytes that were taken.
-fn count_write_faults(alloc: Global, file: &[u8], report: &[u8]) -> Result<u64, AllocError> {
+fn count_write_faults<R: Threads + Sync + Alloc<A = Global>>(
+    rt: &R,
+    file: &[u8],
+    report: &[u8],
+) -> Result<u64, AllocError> {
+    let alloc = rt.alloc();
     let mut count: u64 = 0;
     for room in 0..report.len() {
-        let left = run_whole(alloc, file.to_vec(alloc)?, room)?;
+        let left = run_whole(rt, file.to_vec(alloc)?, room)?;
         let text = format!(in alloc; "write fault after {room} bytes\n")?;
         if left.is(7, text.as_str(), &report[..room]) {
             count = count.saturating_add(1);
@@ -100,11 +125,15 @@ fn count_write_faults(alloc: Global, file: &[u8], report: &[u8]) -> Result<u64, 
 }
 
 // How many prefixes of a file are served, and how many are malformed.
-fn count_prefixes(alloc: Global, file: &[u8]) -> Result<(u64, u64), AllocError> {
+fn count_prefixes<R: Threads + Sync + Alloc<A = Global>>(
+    rt: &R,
+    file: &[u8],
+) -> Result<(u64, u64), AllocError> {
+    let alloc = rt.alloc();
     let mut served: u64 = 0;
     let mut malformed: u64 = 0;
     for length in 0..=file.len() {
-        let left = run_whole(alloc, file[..length].to_vec(alloc)?, ROOM)?;
+        let left = run_whole(rt, file[..length].to_vec(alloc)?, ROOM)?;
         if left.status == 0 {
             served = served.saturating_add(1);
         }
@@ -116,7 +145,7 @@ fn count_prefixes(alloc: Global, file: &[u8]) -> Result<(u64, u64), AllocError> 
 }
 
 // Tells how a run ended: its status, its text where it has one, and its report.
-fn tell(rt: &HostRuntime, what: &str, left: &Left) -> io::Result<()> {
+fn tell<R: Print>(rt: &R, what: &str, left: &Left) -> io::Result<()> {
     let text = str::from_utf8(left.text.bytes()).unwrap_or("no text");
     let report = str::from_utf8(left.report.bytes()).unwrap_or("no report");
     println!(rt; "{what}: status {}", left.status)?;
@@ -124,17 +153,20 @@ fn tell(rt: &HostRuntime, what: &str, left: &Left) -> io::Result<()> {
 }
 
 // The bytes of a file.
-fn read(rt: &HostRuntime, name: &str) -> io::Result<Vec<u8>> {
+fn read<R: Files + Alloc<A = Global>>(rt: &R, name: &str) -> io::Result<Vec<u8>> {
     let path = format!(in rt.alloc(); "{name}.toml")?;
     fs::read(rt, path.as_str())
 }
 
 // Cuts off a file and its report at each byte, and takes each prefix of the file.
-fn tell_cuts(rt: &HostRuntime, name: &str) -> io::Result<()> {
+fn tell_cuts<R: Threads + Sync + Files + Print + Alloc<A = Global>>(
+    rt: &R,
+    name: &str,
+) -> io::Result<()> {
     let alloc = rt.alloc();
     let file = read(rt, name)?;
     let file = file.as_slice();
-    let whole = run_whole(alloc, file.to_vec(alloc)?, ROOM)?;
+    let whole = run_whole(rt, file.to_vec(alloc)?, ROOM)?;
     let report = whole.report.bytes();
     println!(rt;
         "{name} has {} bytes and a report of {} bytes",
@@ -143,39 +175,42 @@ fn tell_cuts(rt: &HostRuntime, name: &str) -> io::Result<()> {
     )?;
     println!(rt;
         "input cut off: {} read faults, no report",
-        count_read_faults(alloc, file)?
+        count_read_faults(rt, file)?
     )?;
     println!(rt;
         "report cut off: {} write faults",
-        count_write_faults(alloc, file, report)?
+        count_write_faults(rt, file, report)?
     )?;
     tell(
         rt,
         "room for the report",
-        &run_whole(alloc, file.to_vec(alloc)?, report.len())?,
+        &run_whole(rt, file.to_vec(alloc)?, report.len())?,
     )?;
-    let (served, malformed) = count_prefixes(alloc, file)?;
+    let (served, malformed) = count_prefixes(rt, file)?;
     println!(rt; "prefixes: {served} served, {malformed} malformed without a report")
 }
 
 // Fills a file by a comment up to the longest input, and one byte further.
-fn tell_filled(rt: &HostRuntime, name: &str) -> io::Result<()> {
+fn tell_filled<R: Threads + Sync + Files + Print + Alloc<A = Global>>(
+    rt: &R,
+    name: &str,
+) -> io::Result<()> {
     let alloc = rt.alloc();
     let file = read(rt, name)?;
     let file = file.as_slice();
     let longest = filled(alloc, file, LONGEST)?;
-    tell(rt, "longest input", &run_whole(alloc, longest, ROOM)?)?;
+    tell(rt, "longest input", &run_whole(rt, longest, ROOM)?)?;
     let longest = filled(alloc, file, LONGEST)?;
     tell(
         rt,
         "longest input, cut off at its end",
-        &run_cut(alloc, longest, LONGEST)?,
+        &run_cut(rt, longest, LONGEST)?,
     )?;
     let longer = filled(alloc, file, LONGEST + 1)?;
     tell(
         rt,
         "one byte more, cut off there",
-        &run_cut(alloc, longer, LONGEST + 1)?,
+        &run_cut(rt, longer, LONGEST + 1)?,
     )
 }
 
@@ -184,7 +219,7 @@ fn main(rt: HostRuntime) -> io::Result<()> {
     tell_filled(&rt, "single_cell")?;
     for name in env::args(&rt)?.skip(1) {
         let file = read(&rt, name.as_str())?;
-        tell(&rt, name.as_str(), &run_whole(rt.alloc(), file, ROOM)?)?;
+        tell(&rt, name.as_str(), &run_whole(&rt, file, ROOM)?)?;
     }
     Ok(())
 }

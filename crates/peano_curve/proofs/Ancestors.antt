@@ -6,10 +6,10 @@ use Rattle.std.proofs.lemmas.Nat.{pow-add, div_below}
 use Rattle.peano_keys.specs.declared.cell.CellKey.{CellKey}
 use Rattle.peano_keys.specs.declared.dim.Dim.{Dim}
 use Rattle.peano_keys.specs.declared.dim.Dim.TheVariants.{Two, Three}
-use Rattle.peano_keys.specs.Dim.{third_extent}
+use Rattle.peano_keys.specs.Dim.{third_extent, children}
 use Rattle.peano_keys.specs.Cell.{IsCell, at}
 use Rattle.peano_keys.proofs.Powers.{pow3_positive}
-use Rattle.peano_curve.specs.Order.{children, place_of, rank_from, rank_of, interval_of}
+use Rattle.peano_curve.specs.Order.{place_of, rank_from, rank_of, interval_of}
 use Rattle.peano_curve.specs.Run.{Holds}
 use Rattle.peano_curve.specs.Laws.{ancestor_of, IsIn, IntervalIsDescendants}
 use Rattle.peano_curve.proofs.Ranks.{rank_below}

@@ -8,7 +8,8 @@ use Rattle.std.proofs.lemmas.Bool.{cases_lt, cases_eq}
 use Rattle.std.proofs.Math.Nat.{pow-zero}
 use Rattle.peano_keys.specs.declared.cell.CellKey.{CellKey}
 use Rattle.peano_keys.specs.declared.dim.Dim.{Dim}
-use Rattle.peano_curve.specs.Order.{children, rank_of, rank_at, curve_cmp}
+use Rattle.peano_keys.specs.Dim.{children}
+use Rattle.peano_curve.specs.Order.{rank_of, rank_at, curve_cmp}
 
 pub cmp_less : (a b : ℕ) → a < b → nat_cmp a b ≡ Less
 cmp_less a b h = sym (nat_cmp_is a b Less h)

@@ -10,10 +10,11 @@ use Rattle.std.proofs.lemmas.Nat.{pow-add, div-mul-add}
 use Rattle.peano_keys.specs.declared.cell.CellKey.{CellKey}
 use Rattle.peano_keys.specs.declared.dim.Dim.{Dim}
 use Rattle.peano_keys.specs.declared.dim.Dim.TheVariants.{Two, Three}
-use Rattle.peano_keys.specs.Dim.{third_extent}
+use Rattle.peano_keys.specs.Dim.{third_extent, children}
 use Rattle.peano_keys.specs.Cell.{IsCell, IsDigits, at, triple, parent_of, child_of, centre_child}
 use Rattle.peano_keys.proofs.Positions.{same_cell, three}
-use Rattle.peano_curve.specs.Order.{children, turned, place_of, sibling_place, rank_from, rank_of, rank_at, nth_child, nth_from, width_of}
+use Rattle.stack_law.specs.Digits.{turned}
+use Rattle.peano_curve.specs.Order.{place_of, sibling_place, rank_from, rank_of, rank_at, nth_child, nth_from, width_of}
 use Rattle.peano_curve.specs.Laws.{ancestor_of, IsIn, ChildAtPlace, SplitsOrderChildren, digit_cmp, digits_cmp, OrderIsByDigits, AncestorComesFirst, CentreIsShared}
 use Rattle.peano_curve.proofs.Ranks.{rank_of-step}
 use Rattle.peano_curve.proofs.Splits.{turned_same, turned_below}

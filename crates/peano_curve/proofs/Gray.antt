@@ -11,7 +11,8 @@ use Rattle.peano_keys.specs.Vertex.{Touches, plane}
 use Rattle.peano_keys.proofs.Faces.{with_x, placed, next_neighbour}
 use Rattle.peano_keys.proofs.Positions.{same_cell}
 use Rattle.peano_curve.specs.declared.order.Direction.{Direction}
-use Rattle.peano_curve.specs.Order.{turned, rank_from, rank_of}
+use Rattle.stack_law.specs.Digits.{turned}
+use Rattle.peano_curve.specs.Order.{rank_from, rank_of}
 use Rattle.peano_curve.specs.Run.{DifferOn}
 use Rattle.peano_curve.specs.Passing.{UpTo, IsBeside, NextIs, TurnsOn, Crosses, NoneLaterRound, NextRound, SpanRound}
 use Rattle.peano_curve.specs.Laws.{RunIsGray, RanksTellApart}

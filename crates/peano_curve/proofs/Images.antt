@@ -8,12 +8,12 @@ use Rattle.peano_keys.specs.declared.cell.CellKey.{CellKey}
 use Rattle.peano_keys.specs.declared.cell.Face.{Face}
 use Rattle.peano_keys.specs.declared.dim.Dim.{Dim}
 use Rattle.peano_keys.specs.declared.dim.Dim.TheVariants.{Two, Three}
-use Rattle.peano_keys.specs.Dim.{axes}
+use Rattle.peano_keys.specs.Dim.{axes, children}
 use Rattle.peano_keys.specs.Cell.{IsCell, at, triple, neighbour_of}
 use Rattle.peano_keys.specs.Field.{face_on}
 use Rattle.peano_keys.proofs.Powers.{pow3_positive}
 use Rattle.peano_keys.proofs.Faces.{Next, with_x, neighbour_next, next_neighbour}
-use Rattle.peano_curve.specs.Order.{children, rank_from, rank_of, curve_cmp}
+use Rattle.peano_curve.specs.Order.{rank_from, rank_of, curve_cmp}
 use Rattle.peano_curve.specs.Laws.{ancestor_of, IsIn, IsAtFace}
 use Rattle.peano_curve.proofs.Ancestors.{rank_of_ancestor, pow3_parts}
 use Rattle.peano_curve.proofs.Mirror.{plane_positive, mirror_0, mirror_1, mirror_2}

@@ -4,7 +4,9 @@ use Rattle.std.proofs.lemmas.Bool.Decides.{nat_tests}
 use Rattle.std.proofs.Math.Nat.{pow-zero, pow-succ', mul-le-mul_right, one-le-pow}
 use Rattle.peano_keys.specs.declared.dim.Dim.{Dim}
 use Rattle.peano_keys.specs.declared.dim.Dim.TheVariants.{Two, Three}
-use Rattle.peano_curve.specs.Order.{children, turned, place_of, rank_from}
+use Rattle.peano_keys.specs.Dim.{children}
+use Rattle.stack_law.specs.Digits.{turned}
+use Rattle.peano_curve.specs.Order.{place_of, rank_from}
 use Rattle.peano_curve.proofs.Splits.{turned_other}
 
 -- the two digits at a plane are mirror images

@@ -5,8 +5,9 @@ use Rattle.std.proofs.lemmas.Nat.{pow-add}
 use Rattle.peano_keys.specs.declared.cell.CellKey.{CellKey}
 use Rattle.peano_keys.specs.declared.dim.Dim.{Dim}
 use Rattle.peano_keys.specs.declared.dim.Dim.TheVariants.{Two, Three}
+use Rattle.peano_keys.specs.Dim.{children}
 use Rattle.peano_keys.specs.Cell.{at, parent_of}
-use Rattle.peano_curve.specs.Order.{children, place_of, sibling_place, rank_from, rank_of}
+use Rattle.peano_curve.specs.Order.{place_of, sibling_place, rank_from, rank_of}
 
 -- as many cells as a level has at most
 pub children_pow_12 : (dim : Dim) (l : ℕ) → l ≤ 12 → children dim ^ l ≤ 150094635296999121

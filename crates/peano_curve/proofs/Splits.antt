@@ -4,7 +4,7 @@ use Rattle.std.proofs.lemmas.Bool.Decides.{nat_tests}
 use Rattle.std.proofs.lemmas.Bool.{cases_eq, cases_lt}
 use Rattle.peano_curve.specs.declared.order.Direction.{Direction}
 use Rattle.peano_curve.specs.declared.order.Direction.TheVariants.{Forward, Backward}
-use Rattle.peano_curve.specs.Order.{turned}
+use Rattle.stack_law.specs.Digits.{turned}
 use Rattle.peano_curve.specs.Run.{Later}
 use Rattle.peano_curve.specs.Passing.{UpTo, Among, IsBeside, NoneLater, NextIs, TurnsOn, Crosses}
 

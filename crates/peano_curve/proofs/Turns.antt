@@ -4,7 +4,8 @@ use Rattle.std.proofs.Math.Nat.{pow-suc}
 use Rattle.peano_keys.specs.declared.dim.Dim.{Dim}
 use Rattle.peano_keys.specs.declared.dim.Dim.TheVariants.{Two, Three}
 use Rattle.peano_curve.specs.declared.order.Direction.{Direction}
-use Rattle.peano_curve.specs.Order.{turned, rank_from}
+use Rattle.stack_law.specs.Digits.{turned}
+use Rattle.peano_curve.specs.Order.{rank_from}
 use Rattle.peano_curve.specs.Passing.{IsBeside, TurnsOn, Crosses}
 use Rattle.peano_curve.proofs.Splits.{Quiet, later_up_to, up_to_refl}
 use Rattle.peano_curve.proofs.Levels.{Within, twice, thrice, rank_thrice, rank_twice, rank_apart, like_turn, below_among, third_beside, twice_second, twice_first, twice_above, thrice_third, thrice_above}

@@ -11,7 +11,8 @@ use Rattle.peano_keys.specs.declared.dim.Dim.TheVariants.{Two, Three}
 use Rattle.peano_keys.specs.Cell.{IsCell, IsDigits, at, triple, parent_of, child_of, centre_child}
 use Rattle.peano_curve.specs.declared.order.Direction.{Direction}
 use Rattle.peano_curve.specs.declared.range.Range.{Range}
-use Rattle.peano_curve.specs.Order.{turned, sibling_place, rank_of, nth_child, interval_of, centre_of, curve_cmp}
+use Rattle.stack_law.specs.Digits.{turned}
+use Rattle.peano_curve.specs.Order.{sibling_place, rank_of, nth_child, interval_of, centre_of, curve_cmp}
 use Rattle.peano_curve.specs.Run.{Holds, HoldsCell, CellLater, Follows, DifferOn}
 
 -- consecutive cells of a run differ on one axis, by one

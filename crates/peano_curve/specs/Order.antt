@@ -2,22 +2,15 @@
 use Rattle.std.specs.Prelude.{ℕ, zero, suc, ◌+◌, ◌-◌, ◌*◌, ◌/◌, ◌%◌, ◌^◌, ◌==◌, if◌then◌else◌, min}
 use Rattle.std.specs.declared.cmp.Ordering.{Ordering}
 use Rattle.std.specs.Ordering.{nat_cmp, ordering_then}
+use Rattle.stack_law.specs.Digits.{turned}
 use Rattle.peano_keys.specs.declared.cell.CellKey.{CellKey}
 use Rattle.peano_keys.specs.declared.dim.Dim.{Dim}
 use Rattle.peano_keys.specs.declared.dim.Dim.TheVariants.{Two, Three}
+use Rattle.peano_keys.specs.Dim.{children}
 use Rattle.peano_keys.specs.Cell.{at, child_of, triple}
 use Rattle.peano_curve.specs.declared.order.Direction.{Direction}
 use Rattle.peano_curve.specs.declared.order.Direction.TheVariants.{Forward, Backward}
 use Rattle.peano_curve.specs.declared.range.Range.{Range}
-
--- how many children a refined cell has
-abbrev pub children : Dim → ℕ
-children Two = 9
-children Three = 27
-
--- a digit as the curve counts it: rising where the sum is even, falling where it is odd
-abbrev pub turned : ℕ → ℕ → ℕ
-turned s k = if s % 2 == 0 then k else 2 - k
 
 -- the place among its siblings of the child at digits k of the cell at x: axis 0 is slowest, and each axis turns with the other coordinates of the parent and the digits before it
 abbrev pub place_of : Dim → ℕ → ℕ → ℕ → ℕ → ℕ → ℕ → ℕ

@@ -7,7 +7,8 @@ use Rattle.peano_keys.specs.Cell.{IsCell, at}
 use Rattle.peano_keys.specs.Vertex.{Touches}
 use Rattle.peano_curve.specs.declared.order.Direction.{Direction}
 use Rattle.peano_curve.specs.declared.order.Direction.TheVariants.{Forward, Backward}
-use Rattle.peano_curve.specs.Order.{turned, rank_of}
+use Rattle.stack_law.specs.Digits.{turned}
+use Rattle.peano_curve.specs.Order.{rank_of}
 use Rattle.peano_curve.specs.Run.{Later, CellLater}
 
 -- a number is not later than another along a direction

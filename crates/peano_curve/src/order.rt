@@ -1,10 +1,12 @@
 //! The order of cells along the curve.
 ghost use Rattle.std.specs.Prelude.{◌≡◌, ◌+◌, ◌^◌, ◌<◌, ◌≤◌, MatchOption, IfSome};
+ghost use Rattle.peano_keys.specs.Dim.{children};
 ghost use Rattle.peano_keys.specs.Cell.{IsCell, parent_of};
-ghost use Rattle.peano_curve.specs.Order.{children, turned, sibling_place, place_along, counted, child_along, nth_child, rank_of, width_of, interval_of, centre_of, curve_cmp};
+ghost use Rattle.stack_law.specs.Digits.{turned};
+ghost use Rattle.peano_curve.specs.Order.{sibling_place, place_along, counted, child_along, nth_child, rank_of, width_of, interval_of, centre_of, curve_cmp};
 
 use crate::range::Range;
-use peano_keys::{CellKey, Dim, child, parent};
+use peano_keys::{CellKey, Dim, child, child_count, parent};
 use std::cmp::Ordering;
 
 /// Which way the curve is followed.
@@ -39,16 +41,6 @@ fn place(dim: Dim, key: CellKey) -> u32
     }
 }
 
-// How many children a refined cell has.
-fn fan(dim: Dim) -> u32
-    ensures { result ≡ children dim }
-{
-    match dim {
-        Dim::Two => 9,
-        Dim::Three => 27,
-    }
-}
-
 // A place counted along a direction.
 fn count(dim: Dim, dir: Direction, place: u32) -> u32
     requires { place < children dim }
@@ -58,7 +50,7 @@ fn count(dim: Dim, dir: Direction, place: u32) -> u32
 {
     match dir {
         Direction::Forward => place,
-        Direction::Backward => fan(dim) - 1 - place,
+        Direction::Backward => child_count(dim) - 1 - place,
     }
 }
 
@@ -111,7 +103,7 @@ pub fn next_child(dim: Dim, child: CellKey, dir: Direction) -> Option<CellKey>
     ensures cell { IfSome result (λ next. IsCell dim next) }
 {
     let from = count(dim, dir, place(dim, child));
-    if from + 1 == fan(dim) {
+    if from + 1 == child_count(dim) {
         None
     } else {
         Some(child_at(dim, parent(child), count(dim, dir, from + 1)))
@@ -128,7 +120,7 @@ fn rank(dim: Dim, key: CellKey) -> u64
     if key.level == 0 {
         0
     } else {
-        u64::from(fan(dim)) * rank(dim, parent(key)) + u64::from(place(dim, key))
+        u64::from(child_count(dim)) * rank(dim, parent(key)) + u64::from(place(dim, key))
     }
 }
 
@@ -139,7 +131,7 @@ fn width(dim: Dim, level: u32, depth: u32) -> u64
     ensures value { result ≡ width_of dim level depth }
     ensures positive { 0 < result }
 {
-    u64::from(fan(dim)).pow(depth.saturating_sub(level))
+    u64::from(child_count(dim)).pow(depth.saturating_sub(level))
 }
 
 /// The positions of a cell's descendants of level `depth` among all cells of that level.

@@ -8,7 +8,7 @@ ghost use Rattle.peano_curve.specs.Run.{Later, DifferOn};
 ghost use Rattle.peano_curve.specs.Passing.{Among, IsBeside, AreBeside, TurnsOn, Crosses, NoneLaterRound, NextRound, SpanRound};
 
 use crate::order::{Direction, turn};
-use peano_keys::{CellKey, Dim, VertexKey, parent};
+use peano_keys::{CellKey, Dim, VertexKey, extent, parent};
 
 fn is_later(dir: Direction, from: u32, to: u32) -> bool
     ensures { IsTrue result ↔ Later dir from to }
@@ -89,7 +89,7 @@ fn opposite(dim: Dim, vertex: VertexKey, cell: CellKey) -> CellKey
     ensures beside { AreBeside cell result }
     ensures all { SpanRound dim vertex cell result }
 {
-    let end = 3u32.pow(cell.level);
+    let end = extent(cell.level);
     let third = third_end(dim, end);
     CellKey {
         level: cell.level,

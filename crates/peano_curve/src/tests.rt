@@ -40,53 +40,24 @@ fn expect_order(rt: &impl Abort, dim: Dim, parent: CellKey, dir: Direction, want
     assert_eq!(rt; next, None, "one child too many");
 }
 
+// The digits of nine children, by axis.
+fn in_plane(first: [u32; 9], second: [u32; 9]) -> [[u32; 3]; 9] {
+    let mut digits = [[0; 3]; 9];
+    for n in 0..9 {
+        digits[n] = [first[n], second[n], 0];
+    }
+    digits
+}
+
 #[test]
 fn orders_of_children_in_a_plane(rt: HostRuntime) {
+    let [up, down] = [[0, 0, 0, 1, 1, 1, 2, 2, 2], [2, 2, 2, 1, 1, 1, 0, 0, 0]];
+    let [there, back] = [[0, 1, 2, 2, 1, 0, 0, 1, 2], [2, 1, 0, 0, 1, 2, 2, 1, 0]];
     let rows = [
-        [
-            [0, 0, 0],
-            [0, 1, 0],
-            [0, 2, 0],
-            [1, 2, 0],
-            [1, 1, 0],
-            [1, 0, 0],
-            [2, 0, 0],
-            [2, 1, 0],
-            [2, 2, 0],
-        ],
-        [
-            [2, 0, 0],
-            [2, 1, 0],
-            [2, 2, 0],
-            [1, 2, 0],
-            [1, 1, 0],
-            [1, 0, 0],
-            [0, 0, 0],
-            [0, 1, 0],
-            [0, 2, 0],
-        ],
-        [
-            [0, 2, 0],
-            [0, 1, 0],
-            [0, 0, 0],
-            [1, 0, 0],
-            [1, 1, 0],
-            [1, 2, 0],
-            [2, 2, 0],
-            [2, 1, 0],
-            [2, 0, 0],
-        ],
-        [
-            [2, 2, 0],
-            [2, 1, 0],
-            [2, 0, 0],
-            [1, 0, 0],
-            [1, 1, 0],
-            [1, 2, 0],
-            [0, 2, 0],
-            [0, 1, 0],
-            [0, 0, 0],
-        ],
+        in_plane(up, there),
+        in_plane(down, there),
+        in_plane(up, back),
+        in_plane(down, back),
     ];
     for (x, row) in [
         ([0, 0, 0], 0),

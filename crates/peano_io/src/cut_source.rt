@@ -66,7 +66,8 @@ impl Source for CutSource {
         ensures fails { IsErr result ↔ (until_cut self.old ≡ 0) }
         ensures filled { IfOk result (λ count. count ≡ min (length buf.old) (until_cut self.old)) }
         ensures until { IfOk result (λ count. until_cut self.new ≡ until_cut self.old - count) }
-        ensures failed { OnErr result ((until_cut self.new ≡ 0) × (read_faults self.new ≡ counted (read_faults self.old))) }
+        ensures failed { OnErr result ((until_cut self.new ≡ 0)
+            × (read_faults self.new ≡ counted (read_faults self.old))) }
     {
         if self.until == 0 {
             self.faults = self.faults.saturating_add(1);

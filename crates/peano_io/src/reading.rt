@@ -35,7 +35,8 @@ pub fn read_all<S: Source>(alloc: Global, src: &mut S, limit: u64) -> Result<Vec
 
     // Exactly where one byte more than the limit was read, and so only where more than `limit` were left.
     ensures prefix { LosesPrefix limit (S.left src.old) (S.left src.new) result }
-    ensures too_long { IsErrOf result ReadAllFault.TooLong → IfSome (S.left src.old) (λ all. limit < length all) }
+    ensures too_long { IsErrOf result ReadAllFault.TooLong
+        → IfSome (S.left src.old) (λ all. limit < length all) }
 
     // Where the count rose, nothing comes but a read fault.
     ensures later { S.faults src.old ≤ S.faults src.new }

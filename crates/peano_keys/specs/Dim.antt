@@ -14,6 +14,11 @@ abbrev pub corners : Dim → ℕ
 corners Two = 4
 corners Three = 8
 
+-- how many children a refined cell has
+abbrev pub children : Dim → ℕ
+children Two = 9
+children Three = 27
+
 -- how many coordinates axis 2 has where the other axes have `n`: in a plane one, which is 0
 abbrev pub third_extent : Dim → ℕ → ℕ
 third_extent Two n = 1
@@ -24,10 +29,12 @@ abbrev pub third_end : Dim → ℕ → ℕ
 third_end Two n = 0
 third_end Three n = n
 
+-- whether a dimension is that of the plane
 abbrev pub is_plane : Dim → Bool
 is_plane Two = true
 is_plane Three = false
 
+-- the dimension by that truth value
 abbrev pub dim_from : Bool → Dim
 dim_from true = Two
 dim_from false = Three

@@ -44,6 +44,7 @@ side_at t f (Some n) = if has_cell t n then Same (value_of t f n) else Coarse (c
 abbrev pub side_of : Spacetree → States → CellKey → Face → Side
 side_of t f c face = side_at t f (neighbour_of c face)
 
+-- the low or the high face on an axis
 abbrev pub face_on : ℕ → Bool → Face
 face_on i up = record { axis = i; high = up }
 

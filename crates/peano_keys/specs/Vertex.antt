@@ -1,5 +1,5 @@
 -- Vertices by level and coordinates: corners of cells, and the positions of cells round a vertex.
-use Rattle.std.specs.Prelude.{◌≡◌, ℕ, ◌+◌, ◌-◌, ◌*◌, ◌/◌, ◌%◌, ◌^◌, ◌≤◌, ◌==◌, Bool, true, false, List, slice_index, length, Option, Some, None, if◌then◌else◌, ◌&&◌, nat_le}
+use Rattle.std.specs.Prelude.{◌≡◌, ℕ, ◌+◌, ◌-◌, ◌*◌, ◌/◌, ◌%◌, ◌^◌, ◌≤◌, ◌==◌, Bool, true, false, slice_index, length, Option, Some, None, if◌then◌else◌, ◌&&◌, nat_le}
 use Rattle.peano_keys.specs.declared.dim.Dim.{Dim}
 use Rattle.peano_keys.specs.declared.dim.Dim.TheVariants.{Two, Three}
 use Rattle.peano_keys.specs.declared.cell.CellKey.{CellKey}

@@ -2,7 +2,7 @@
 ghost use Rattle.std.specs.Prelude.{◌≡◌, ◌^◌, ◌<◌, ◌≤◌, ◌↔◌, IsTrue, IfSome};
 ghost use Rattle.peano_keys.specs.declared.dim.Dim.{Dim};
 ghost use Rattle.peano_keys.specs.Dim.{axes};
-ghost use Rattle.peano_keys.specs.Cell.{IsCell, IsCellKey, IsDigits, parent_of, child_of, neighbour_of};
+ghost use Rattle.peano_keys.specs.Cell.{IsCell, IsCellKey, IsDigits, root as root_cell, parent_of, child_of, neighbour_of};
 
 use crate::dim::Dim;
 use crate::power::extent;
@@ -35,6 +35,16 @@ pub fn is_cell(dim: Dim, key: &CellKey) -> bool
         Dim::Three => end,
     };
     key.x[0] < end && key.x[1] < end && key.x[2] < third_end
+}
+
+/// The root: the one cell of level 0.
+pub fn root() -> CellKey
+    ensures { result ≡ root_cell }
+{
+    CellKey {
+        level: 0,
+        x: [0; 3],
+    }
 }
 
 /// The cell that a cell below the root is a child of.

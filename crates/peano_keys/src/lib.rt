@@ -12,9 +12,9 @@ mod state;
 mod tests;
 mod vertex;
 
-pub use cell::{CellKey, Face, child, is_cell, neighbour, parent};
-pub use dim::Dim;
-pub use power::pow3;
+pub use cell::{CellKey, Face, child, is_cell, neighbour, parent, root};
+pub use dim::{Dim, child_count, corner_count};
+pub use power::{extent, pow3};
 pub use side::{Mark, Side, Sides};
 pub use state::State;
 pub use vertex::{VertexKey, adjacent, anchor_corner, corner, home_corner, is_vertex, slot_of};

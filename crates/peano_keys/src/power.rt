@@ -10,11 +10,13 @@ pub fn pow3(n: u32) -> u64
     3u64.pow(n)
 }
 
-// How many cells a level has on an axis.
-#[tactic(auto, using(crate::proofs::Powers::pow3_by_12))]
-pub(crate) fn extent(level: u32) -> u32
+/// How many cells a level has on an axis.
+#[tactic(auto, using(crate::proofs::Powers::pow3_by_12, crate::proofs::Powers::pow3_positive))]
+pub fn extent(level: u32) -> u32
     requires { level ≤ 12 }
-    ensures { result ≡ 3 ^ level }
+    ensures value { result ≡ 3 ^ level }
+    ensures least { 1 ≤ result }
+    ensures most { result ≤ 531441 }
 {
     3u32.pow(level)
 }

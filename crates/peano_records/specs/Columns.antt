@@ -42,9 +42,11 @@ counted false c = One
 abbrev pub no_rests : Rests
 no_rests = record { value = record { second = pos 0; third = pos 0; fourth = pos 0 }; next = record { second = pos 0; third = pos 0; fourth = pos 0 } }
 
+-- the first numbers of a slot of which nothing is known
 abbrev pub no_firsts : Firsts
 no_firsts = record { value = pos 0; next = pos 0 }
 
+-- the small parts of such a slot
 abbrev pub no_parts : SmallParts
 no_parts = record { status = Unset; mark = Keep; intent = Stay; value_count = One; next_count = One }
 
@@ -52,6 +54,7 @@ no_parts = record { status = Unset; mark = Keep; intent = Stay; value_count = On
 abbrev pub no_slots : FourSlots
 no_slots = record { firsts = no_firsts ∷ no_firsts ∷ no_firsts ∷ no_firsts ∷ []; parts = no_parts ∷ no_parts ∷ no_parts ∷ no_parts ∷ [] }
 
+-- the near part of a vertex of which nothing is known
 abbrev pub nowhere : Near
 nowhere = record { key = record { level = 0; v = 0 ∷ 0 ∷ 0 ∷ [] }; slots = no_slots; has_far = false; has_more = false }
 
@@ -69,6 +72,7 @@ slot_by wide s first rest = record {
 abbrev pub one_of : Bool → FourSlots → List Rests → ℕ → Slot
 one_of wide four rests k = slot_by wide (slice_index_or four.parts k no_parts) (slice_index_or four.firsts k no_firsts) (slice_index_or rests k no_rests)
 
+-- all four slots
 abbrev pub four_of : Bool → FourSlots → List Rests → List Slot
 four_of wide four rests = one_of wide four rests 0 ∷ one_of wide four rests 1 ∷ one_of wide four rests 2 ∷ one_of wide four rests 3 ∷ []
 

@@ -34,6 +34,7 @@ pub record FollowsMarks (old new : Spacetree) (marks : CellKey → Mark) (c : Ce
   pub merge : Merges old marks c → intent_between (is_refined old c) (is_refined new c) ≡ Merge
   pub stay : ¬ Splits old marks c → ¬ Merges old marks c → intent_between (is_refined old c) (is_refined new c) ≡ Stay
 
+-- the intents between a grid and its next one by marks follow these marks
 abbrev pub IntentsFollowMarks : Type 0
 IntentsFollowMarks = (old new : Spacetree) (marks : CellKey → Mark) (c : CellKey) → IsNextGrid old marks new → FollowsMarks old new marks c
 
@@ -42,6 +43,7 @@ pub record TellsBoth (old new : Spacetree) (c : CellKey) (s : Slot) : Type 0 whe
   pub before : slot_tells false s ≡ is_refined old c
   pub after : slot_tells true s ≡ is_refined new c
 
+-- a slot that holds the intent of a cell tells both grids of it
 abbrev pub SlotsTellBothGrids : Type 0
 SlotsTellBothGrids = (old new : Spacetree) (c : CellKey) (s : Slot) → HoldsIntent old new c s → TellsBoth old new c s
 

@@ -86,4 +86,4 @@ none_left P false world e h = h
 pub no_world : (asked : Asked) (a : Answer) (input : Option (List ℕ)) (world : Option (Seen AnySolver)) → Leaves asked a input world → leaves_world a ≡ false → world ≡ None
 no_world (File r) a None world h e = none_left _ (leaves_world a) world e h
 no_world (File r) a (Some bytes) world h e = none_left _ (leaves_world a) world e h
-no_world (Demo n trees) a input world h e = none_left _ (leaves_world a) world e h
+no_world (Demo n trees workers) a input world h e = none_left _ (leaves_world a) world e h

@@ -19,26 +19,24 @@ some_is n m e = cc
 
 one_for : (w : Words) (a b : Asked) → AsksFor w a → AsksFor w b → a ≡ b
 one_for w (File r) (File s) h g =
-    let trees : r.trees ≡ s.trees = h.2 ∙ sym g.2 in
+    let trees : r.trees ≡ s.trees = h.1 ∙ sym g.1 in
+    let workers : r.workers ≡ s.workers = h.2 ∙ sym g.2 in
     let show : r.show ≡ s.show = h.3 ∙ sym g.3 in
-    λ i. File (record { trees = trees i; show = show i })
-one_for w (File r) (Demo n trees) h g = absurd (none_some n (sym h.1 ∙ g.1))
-one_for w (Demo n trees) (File r) h g = absurd (none_some n (sym g.1 ∙ h.1))
-one_for w (Demo n trees) (Demo m others) h g =
-    let numbers : n ≡ m = some_is n m (sym h.1 ∙ g.1) in
-    let counts : trees ≡ others = h.2 ∙ sym g.2 in
-    λ i. Demo (numbers i) (counts i)
+    λ i. File (record { trees = trees i; workers = workers i; show = show i })
+one_for w (File r) (Demo n trees workers) h g = absurd (none_some n (sym h.0 ∙ g.0))
+one_for w (Demo n trees workers) (File r) h g = absurd (none_some n (sym g.0 ∙ h.0))
+one_for w (Demo n trees workers) (Demo m others helpers) h g =
+    let numbers : n ≡ m = some_is n m (sym h.0 ∙ g.0) in
+    let counts : trees ≡ others = h.1 ∙ sym g.1 in
+    let hands : workers ≡ helpers = h.2 ∙ sym g.2 in
+    λ i. Demo (numbers i) (counts i) (hands i)
 
 pub one_asked : (words : List Text) (a b : Asked) → Asks words a → Asks words b → a ≡ b
 one_asked words a b h g =
     let same : h.settings ≡ g.settings = one words h.settings g.settings h.means g.means in
     one_for g.settings a b (subst (λ (w : Words). AsksFor w a) same h.asks) g.asks
 
--- and for nothing where they mean settings that are not served
-pub not_served : (words : List Text) (w : Words) → Means words w → ((a : Asked) → ¬ AsksFor w a) → AreRefused words
-not_served words w means apart asked asks = apart asked (subst (λ (x : Words). AsksFor x asked) (one words asks.settings w asks.means means) asks.asks)
-
--- nor where they mean none
+-- and for nothing where they mean none
 pub refused_words : (words : List Text) (res : Result Asked WordsFault) (e : WordsFault) (Q : WordsFault → Type 0) → ((d : WordsFault) → Q d → d ≡ e) → IsErrAnd res Q → (e ≡ Usage → (w : Words) → ¬ Means words w) → res ≡ Err Usage → AreRefused words
 refused_words words (Ok a) e Q to h none same asked asks = absurd h
 refused_words words (Err d) e Q to h none same asked asks = none (sym (to d h) ∙ fault_is d same) asks.settings asks.means

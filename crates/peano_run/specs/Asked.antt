@@ -1,4 +1,4 @@
--- What the words of a command line ask for, as far as it is served.
+-- What the words of a command line ask for.
 use Rattle.std.specs.Prelude.{◌≡◌, ℕ, ◌≤◌, List, Option, None, Some}
 use Rattle.command_line.specs.declared.words.Words.{Words}
 use Rattle.command_line.specs.CommandLine.{Text, Means}
@@ -6,15 +6,10 @@ use Rattle.peano_run.specs.declared.asked.Asked.{Asked}
 use Rattle.peano_run.specs.declared.asked.Asked.TheVariants.{File, Demo}
 use Rattle.peano_run.specs.declared.asked.Request.{Request}
 
--- settings ask for a file by so many trees, with what is shown of it, or for the demonstration of a number by so many trees. No helpers are served yet.
+-- settings ask for a file by so many trees and workers, with what is shown of it, or for the demonstration of a number by so many
 abbrev pub AsksFor : Words → Asked → Type 0
-AsksFor w (File r) = (w.workers ≡ 0) × (w.demo ≡ None) × (r.trees ≡ w.trees) × (r.show ≡ w.show)
-AsksFor w (Demo n trees) = (w.workers ≡ 0) × (w.demo ≡ Some n) × (trees ≡ w.trees)
-
--- what settings ask for, if it is served
-abbrev pub AsksNow : Words → Option Asked → Type 0
-AsksNow w (Some asked) = AsksFor w asked
-AsksNow w None = (asked : Asked) → ¬ AsksFor w asked
+AsksFor w (File r) = (w.demo ≡ None) × (r.trees ≡ w.trees) × (r.workers ≡ w.workers) × (r.show ≡ w.show)
+AsksFor w (Demo n trees workers) = (w.demo ≡ Some n) × (trees ≡ w.trees) × (workers ≡ w.workers)
 
 -- so do words that mean them
 pub record Asks (words : List Text) (asked : Asked) : Type 0 where
@@ -22,7 +17,7 @@ pub record Asks (words : List Text) (asked : Asked) : Type 0 where
   pub means : Means words settings
   pub asks : AsksFor settings asked
 
--- the words ask for nothing that is served: they mean nothing, or settings that are not served yet
+-- the words ask for nothing: they mean nothing
 abbrev pub AreRefused : List Text → Type 0
 AreRefused words = (asked : Asked) → ¬ Asks words asked
 
@@ -35,6 +30,12 @@ pub record IsTreeCount (n : ℕ) : Type 0 where
   pub some : 1 ≤ n
   pub most : n ≤ 64
 
-abbrev pub HasTrees : Asked → Type 0
-HasTrees (File r) = IsTreeCount r.trees
-HasTrees (Demo n trees) = IsTreeCount trees
+-- and at most 16 workers
+pub record IsCrew (trees workers : ℕ) : Type 0 where
+  pub trees_are : IsTreeCount trees
+  pub workers_are : workers ≤ 16
+
+-- so it is of what is asked for
+abbrev pub HasCrew : Asked → Type 0
+HasCrew (File r) = IsCrew r.trees r.workers
+HasCrew (Demo n trees workers) = IsCrew trees workers

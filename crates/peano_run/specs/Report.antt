@@ -5,6 +5,7 @@ use Rattle.peano_keys.specs.Grid.{Spacetree}
 use Rattle.peano_keys.specs.Field.{States}
 use Rattle.solver_api.specs.Step.{Overflows}
 use Rattle.volume_solver.specs.Any.{updated_by, marked_by, parts_in}
+use Rattle.spacetree.specs.declared.limits.TheConstants.{MOST_CELLS}
 use Rattle.spacetree.specs.Opening.{Opens, OpensField}
 use Rattle.spacetree.specs.Build.{IsTooLarge}
 use Rattle.spacetree.specs.Counts.{cells_of}
@@ -48,6 +49,7 @@ shows_fields Fields = true
 shows_fields TrafficAlone = false
 shows_fields All = true
 
+-- whether traffic is shown
 abbrev pub shows_traffic : ShowWhat → Bool
 shows_traffic Fields = false
 shows_traffic TrafficAlone = true
@@ -73,6 +75,7 @@ abbrev pub IsAddedIf : Bool → Request → Plan → Cuts → ℕ → Spacetree 
 IsAddedIf true r plan k step g f text = IsPrintedText r plan k step g f text
 IsAddedIf false r plan k step g f text = text ≡ []
 
+-- what a step adds to the report: its text where the plan has it printed, else nothing
 abbrev pub IsAdded : Request → Plan → Cuts → ℕ → Spacetree → States → List ℕ → Type 0
 IsAdded r plan k step g f text = IsAddedIf (printed plan step) r plan k step g f text
 
@@ -83,7 +86,7 @@ added_lines r plan step f = if printed plan step && shows_fields r.show then len
 -- the moment before the first step: the opening grid and the opening field, cut into trees of equal shares
 pub record Starts (r : Request) (plan : Plan) (m : Moment) : Type 0 where
   pub grid : Opens plan.shape m.grid
-  pub room : cells_of m.grid ≤ 200000
+  pub room : cells_of m.grid ≤ MOST_CELLS
   pub field : OpensField m.grid plan.fills (parts_in plan.solver) m.field
   pub keys : AreFirstKeys plan.shape.depth m.grid r.trees m.keys
   pub text : IsAdded r plan (cuts_of m.keys) 0 m.grid m.field m.text
@@ -112,7 +115,7 @@ pub record GoesOn (r : Request) (plan : Plan) (n : ℕ) (m : Moment) : Type 0 wh
 -- a run of a plan opens: with the opening grid and the opening field, cut into trees of equal shares
 pub record OpensRun (r : Request) (plan : Plan) (keys : CutPoints) (g : Spacetree) (f : States) : Type 0 where
   pub grid : Opens plan.shape g
-  pub room : cells_of g ≤ 200000
+  pub room : cells_of g ≤ MOST_CELLS
   pub field : OpensField g plan.fills (parts_in plan.solver) f
   pub cut : AreFirstKeys plan.shape.depth g r.trees keys
 
@@ -152,7 +155,7 @@ pub record IsReportOf (r : Request) (plan : Plan) (text : List ℕ) : Type 0 whe
 
 -- a plan has too many lines: with those of the opening field, or with those of the field to which a step leads
 pub data HasManyLines (r : Request) (plan : Plan) : Type 0 where
-  at_start : (g : Spacetree) (f : States) → Opens plan.shape g → cells_of g ≤ 200000 → OpensField g plan.fills (parts_in plan.solver) f → most_lines < added_lines r plan 0 f → HasManyLines r plan
+  at_start : (g : Spacetree) (f : States) → Opens plan.shape g → cells_of g ≤ MOST_CELLS → OpensField g plan.fills (parts_in plan.solver) f → most_lines < added_lines r plan 0 f → HasManyLines r plan
   in_step : (n : ℕ) (before : Moment) (g : Spacetree) (f : States) → n < plan.steps → GoesOn r plan n before → IsServedStep (updated_by plan.solver) (marked_by plan.solver) before.grid before.field g f →
       most_lines < before.lines + added_lines r plan (suc n) f → HasManyLines r plan
 
@@ -187,7 +190,7 @@ IsReport r bytes text = OfPlan bytes (λ plan. IsReportOf r plan text)
 
 -- why a plan has no report: its opening grid has too many cells, its report too many lines, or a step of it is refused
 abbrev pub Refuses : Request → Plan → Answer → Type 0
-Refuses r plan (Limit Cells number) = (number ≡ 200000) × IsTooLarge plan.shape
+Refuses r plan (Limit Cells number) = (number ≡ MOST_CELLS) × IsTooLarge plan.shape
 Refuses r plan (Limit Lines number) = (number ≡ most_lines) × HasManyLines r plan
 Refuses r plan (Crowded step cells) = PlanCrowds r plan step cells
 Refuses r plan (Overflow step leaf) = PlanOverflows r plan step leaf

@@ -25,9 +25,9 @@ pub record Demonstrates (n : ℕ) (answer : Answer) (before after : Option (List
 -- what is done for what is asked: the report of a file, or a demonstration
 abbrev pub Serves : Asked → Answer → Option (List ℕ) → Option (List ℕ) → Bool → Option (List ℕ) → Option (List ℕ) → Type 0
 Serves (File r) answer input rest ended before after = ReportsFile r answer input rest ended before after
-Serves (Demo n trees) answer input rest ended before after = Demonstrates n answer before after
+Serves (Demo n trees workers) answer input rest ended before after = Demonstrates n answer before after
 
 -- the world that is left of what is asked: of a file's plan, or of a demonstration's
 abbrev pub Leaves : Asked → Answer → Option (List ℕ) → Option (Seen AnySolver) → Type 0
 Leaves (File r) answer input = LeavesBy r answer input
-Leaves (Demo n trees) answer input = IsLeft (EndsAtLast trees (demo n)) (leaves_world answer)
+Leaves (Demo n trees workers) answer input = IsLeft (EndsAtLast trees (demo n)) (leaves_world answer)

@@ -10,11 +10,13 @@ use grid_file::Plan;
 use solver_api::Solver;
 use spacetree::{Field, Grid};
 use std::alloc::{AllocError, Global};
+use std::thread::Threads;
 use step_driver::World;
 use volume_solver::AnySolver;
 
 // The world of a plan on its opening grid, with its opening field, before the first step.
-pub(crate) fn begin(
+pub(crate) fn begin<R: Threads + Sync>(
+    rt: &R,
     alloc: Global,
     plan: &Plan,
     grid: &Grid,
@@ -28,5 +30,13 @@ pub(crate) fn begin(
     ensures { IfOk result (IsFirst trees plan.now grid.now) }
 {
     let field = Field::opening(alloc, grid, plan.fills.as_slice(), plan.solver.parts())?;
-    World::start(alloc, plan.shape.depth, grid, &field, plan.solver, trees)
+    World::start(
+        rt,
+        alloc,
+        plan.shape.depth,
+        grid,
+        &field,
+        plan.solver,
+        trees,
+    )
 }

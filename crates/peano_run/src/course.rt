@@ -7,7 +7,7 @@ ghost use Rattle.field_report.specs.Block.{field_block};
 ghost use Rattle.field_report.specs.Traffic.{traffic_block};
 ghost use Rattle.grid_file.specs.Plan.{printed};
 ghost use Rattle.grid_file.specs.Valid.{IsPlan};
-ghost use Rattle.peano_run.specs.Asked.{IsTreeCount};
+ghost use Rattle.peano_run.specs.Asked.{IsCrew};
 ghost use Rattle.peano_run.specs.Report.{Moment, most_lines, shows_fields, shows_traffic};
 ghost use Rattle.peano_run.specs.Course.{IsCourse, IsStopped, IsUnderWay, IsShowing, StandsUnshown, CountsLines};
 
@@ -19,16 +19,15 @@ use command_line::ShowWhat;
 use field_report::{field_text, traffic_text};
 use grid_file::{Plan, is_printed};
 use peano_keys::Dim;
-use spacetree::{BuildFault, Grid};
+use spacetree::{BuildFault, Grid, MOST_CELLS};
 use std::alloc::{AllocError, Global};
+use std::thread::Threads;
 use step_driver::{Shown, StepFault, World};
+use task_pool::Gate;
 use volume_solver::AnySolver;
 
 // The most leaf lines of a report.
 const MOST_LINES: u64 = 500_000;
-
-// The most cells of the opening grid.
-const MOST_CELLS: u64 = 200_000;
 
 // Where a run stands after a step: its world, and the report so far with the number of its leaf lines.
 #[derive(Drop)]
@@ -108,7 +107,8 @@ fn add_traffic(
 }
 
 // Adds what a printed step shows.
-fn print(
+fn print<R: Threads + Sync>(
+    rt: &R,
     alloc: Global,
     plan: &Plan,
     request: Request,
@@ -126,7 +126,7 @@ fn print(
         };
         return Err(Refused::with(answer, course.world));
     };
-    let shown = course.world.show(alloc)?;
+    let shown = course.world.show(rt, alloc)?;
     add_fields(alloc, plan.shape.dim, request, &shown, &mut course.text)?;
     add_traffic(alloc, request, &shown, &mut course.text)?;
     course.lines = lines;
@@ -134,7 +134,8 @@ fn print(
 }
 
 // Adds what a step shows, where it is printed.
-fn show(
+fn show<R: Threads + Sync>(
+    rt: &R,
     alloc: Global,
     plan: &Plan,
     request: Request,
@@ -146,16 +147,21 @@ fn show(
     ensures { (m : Moment) → StandsUnshown request plan.now step course m → IsShowing request plan.now step m result }
 {
     if is_printed(plan, step) {
-        print(alloc, plan, request, course)
+        print(rt, alloc, plan, request, course)
     } else {
         Ok(course)
     }
 }
 
 // The opening of a plan's run.
-fn opened(alloc: Global, plan: &Plan, request: Request) -> Result<Course, Refused>
+fn opened<R: Threads + Sync>(
+    rt: &R,
+    alloc: Global,
+    plan: &Plan,
+    request: Request,
+) -> Result<Course, Refused>
     requires plan { IsPlan plan.now }
-    requires trees { IsTreeCount request.trees }
+    requires crew { IsCrew request.trees request.workers }
     ensures ok { IfOk result (IsCourse request plan.now 0) }
     ensures err { IfErr result (IsStopped request plan.now) }
 {
@@ -170,29 +176,32 @@ fn opened(alloc: Global, plan: &Plan, request: Request) -> Result<Course, Refuse
         Err(BuildFault::NoMemory) => return Err(Refused::at_once(Answer::NoMemory)),
     };
     let course = Course {
-        world: begin(alloc, plan, &grid, request.trees)?,
+        world: begin(rt, alloc, plan, &grid, request.trees)?,
         text: Vec::new(alloc),
         lines: 0,
     };
-    show(alloc, plan, request, 0, course)
+    show(rt, alloc, plan, request, 0, course)
 }
 
 // One step more.
-fn stepped(
+fn stepped<R: Threads + Sync, G: Gate>(
+    rt: &R,
     alloc: Global,
     plan: &Plan,
     request: Request,
     step: u32,
     mut course: Course,
+    gate: &G,
 ) -> Result<Course, Refused>
     requires plan { IsPlan plan.now }
     requires course { IsCourse request plan.now step course }
     requires more { step < plan.now.steps }
+    requires workers { request.workers ≤ 16 }
     ensures ok { IfOk result (IsCourse request plan.now (step + 1)) }
     ensures err { IfErr result (IsStopped request plan.now) }
 {
-    match course.world.advance(alloc) {
-        Ok(()) => show(alloc, plan, request, step + 1, course),
+    match course.world.advance(rt, alloc, request.workers, gate) {
+        Ok(()) => show(rt, alloc, plan, request, step + 1, course),
         Err(StepFault::Overflow { step, key }) => {
             Err(Refused::with(Answer::Overflow { step, key }, course.world))
         }
@@ -204,15 +213,21 @@ fn stepped(
 }
 
 // The course of a plan to its end.
-pub(crate) fn run_plan(alloc: Global, plan: &Plan, request: Request) -> Result<Course, Refused>
+pub(crate) fn run_plan<R: Threads + Sync, G: Gate>(
+    rt: &R,
+    alloc: Global,
+    plan: &Plan,
+    request: Request,
+    gate: &G,
+) -> Result<Course, Refused>
     requires plan { IsPlan plan.now }
-    requires trees { IsTreeCount request.trees }
+    requires crew { IsCrew request.trees request.workers }
     ensures ok { IfOk result (IsCourse request plan.now plan.now.steps) }
     ensures err { IfErr result (IsStopped request plan.now) }
 {
-    let mut course = opened(alloc, plan, request)?;
+    let mut course = opened(rt, alloc, plan, request)?;
     for step in 0..plan.steps {
-        course = stepped(alloc, plan, request, step, course)?;
+        course = stepped(rt, alloc, plan, request, step, course, gate)?;
     }
     Ok(course)
 }

@@ -7,6 +7,8 @@ mod begin;
 mod course;
 mod demo;
 mod ending;
+#[cfg(test)]
+mod gate_tests;
 pub mod laws;
 mod refused;
 mod report;

@@ -1,8 +1,10 @@
 //! Runs as a caller sees them: what was written, what was told, and what is left of the input.
 use super::*;
 use peano_io::{MemSink, MemSource};
-use std::alloc::{AllocError, Global};
+use std::alloc::{Alloc, AllocError, Global};
 use std::test::Fail;
+use std::thread::Threads;
+use task_pool::Through;
 
 const SINGLE_CELL: &str =
     "dim = 2\ndepth = 0\nbase = 0\nsolver = 'diffuse'\na = 1\nb = 90\nsteps = 0\n[[fill]]\nlevel = 0\nfrom = [0, 0]\nto = [1, 1]\nvalue = [7]\n";
@@ -69,7 +71,13 @@ fn calls(alloc: Global, failing: Option<u64>) -> Result<Vec<u64>, AllocError> {
 }
 
 // Runs a file, with a report's sink that takes at most ten bytes a call.
-fn run_with(alloc: Global, words: &[&str], file: &str, failing: Failing) -> Result<Left, Fail> {
+fn run_with<R: Threads + Sync + Alloc<A = Global>>(
+    rt: &R,
+    words: &[&str],
+    file: &str,
+    failing: Failing,
+) -> Result<Left, Fail> {
+    let alloc = rt.alloc();
     let mut given = Vec::new(alloc);
     for word in words {
         let mut text = String::new(alloc);
@@ -79,7 +87,15 @@ fn run_with(alloc: Global, words: &[&str], file: &str, failing: Failing) -> Resu
     let mut input = MemSource::new(file.as_bytes().to_vec(alloc)?, calls(alloc, failing.input)?);
     let mut out = MemSink::new(alloc, 10_000, 10, calls(alloc, failing.out)?)?;
     let mut err = MemSink::new(alloc, 1_000, 1_000, calls(alloc, failing.err)?)?;
-    let outcome = run(alloc, given.as_slice(), &mut input, &mut out, &mut err);
+    let outcome = run(
+        rt,
+        alloc,
+        given.as_slice(),
+        &mut input,
+        &mut out,
+        &mut err,
+        &Through,
+    );
     Ok(Left {
         outcome,
         input,
@@ -107,7 +123,7 @@ fn reports_are_written_whole(rt: HostRuntime) -> Result<(), Fail> {
         (MERGES, "step 1 leaves 1\n0 0 0 4\n"),
     ];
     for (file, want) in table {
-        let left = run_with(rt.alloc(), &[], file, NOWHERE)?;
+        let left = run_with(&rt, &[], file, NOWHERE)?;
         assert_eq!(rt; left.out.bytes(), want.as_bytes(), "{want}");
         assert!(rt;
             left.outcome.answer == Answer::Done && left.outcome.status == 0,
@@ -133,7 +149,7 @@ fn refusals_name_their_cause(rt: HostRuntime) -> Result<(), Fail> {
         (OVERFLOWS_3D, 6, "overflow step 1 at 1 0 1 1\n"),
     ];
     for (file, status, text) in table {
-        let left = run_with(rt.alloc(), &[], file, NOWHERE)?;
+        let left = run_with(&rt, &[], file, NOWHERE)?;
         assert_eq!(rt; left.err.bytes(), text.as_bytes(), "{text}");
         assert_eq!(rt; left.outcome.status, status, "{text}");
         assert!(rt;
@@ -153,13 +169,13 @@ fn words_are_refused_before_the_input_is_read(rt: HostRuntime) -> Result<(), Fai
         &["--"],
         &["--trees", "0"],
         &["--trees=65"],
-        &["--workers=1"],
+        &["--workers=17"],
         &["--show", "some"],
         &["--demo", "1", "--show", "fields"],
         &["--demo", "10000000000000000000"],
     ];
     for words in tables {
-        let left = run_with(rt.alloc(), words, PULSE, NOWHERE)?;
+        let left = run_with(&rt, words, PULSE, NOWHERE)?;
         assert_eq!(rt; left.err.bytes(), usage.as_bytes());
         assert!(rt; left.outcome.answer == Answer::Usage && left.outcome.status == 2);
         assert!(rt; left.out.bytes().is_empty());
@@ -170,14 +186,15 @@ fn words_are_refused_before_the_input_is_read(rt: HostRuntime) -> Result<(), Fai
 
 #[test]
 fn words_that_ask_for_the_report(rt: HostRuntime) -> Result<(), Fail> {
-    let tables: [&[&str]; 4] = [
+    let tables: [&[&str]; 5] = [
         &["--show", "fields"],
         &["--show=fields", "--trees=1"],
         &["--trees", "001"],
         &["--workers", "0"],
+        &["--workers=16", "--trees", "64"],
     ];
     for words in tables {
-        let left = run_with(rt.alloc(), words, SINGLE_CELL, NOWHERE)?;
+        let left = run_with(&rt, words, SINGLE_CELL, NOWHERE)?;
         assert_eq!(rt; left.out.bytes(), "step 0 leaves 1\n0 0 0 7\n".as_bytes());
         assert!(rt; left.outcome.answer == Answer::Done && left.err.bytes().is_empty());
     }
@@ -200,12 +217,12 @@ fn words_that_ask_for_trees_and_traffic(rt: HostRuntime) -> Result<(), Fail> {
         (&["--show", "all", "--trees=2"], fields, halves),
     ];
     for (words, field, traffic) in table {
-        let left = run_with(rt.alloc(), words, PULSE, NOWHERE)?;
+        let left = run_with(&rt, words, PULSE, NOWHERE)?;
         let want = format!(in rt.alloc(); "{field}{traffic}")?;
         assert_eq!(rt; left.out.bytes(), want.as_bytes());
         assert!(rt; left.outcome.answer == Answer::Done && left.err.bytes().is_empty());
     }
-    let many = run_with(rt.alloc(), &["--show", "traffic"], TOO_MANY_LINES, NOWHERE)?;
+    let many = run_with(&rt, &["--show", "traffic"], TOO_MANY_LINES, NOWHERE)?;
     assert!(rt; many.outcome.answer == Answer::Done && many.err.bytes().is_empty());
     Ok(())
 }
@@ -227,7 +244,7 @@ fn a_demonstration_reads_nothing_and_writes_its_summary(rt: HostRuntime) -> Resu
         ),
     ];
     for (words, want) in table {
-        let left = run_with(rt.alloc(), words, PULSE, NOWHERE)?;
+        let left = run_with(&rt, words, PULSE, NOWHERE)?;
         assert_eq!(rt; left.out.bytes(), want.as_bytes());
         assert!(rt; left.outcome.answer == Answer::Done && left.outcome.status == 0);
         assert!(rt; left.err.bytes().is_empty());
@@ -242,7 +259,7 @@ fn a_write_of_a_summary_fails(rt: HostRuntime) -> Result<(), Fail> {
         out: Some(1),
         ..NOWHERE
     };
-    let left = run_with(rt.alloc(), &["--demo", "0"], "", failing)?;
+    let left = run_with(&rt, &["--demo", "0"], "", failing)?;
     assert_eq!(rt; left.outcome.status, 7);
     assert_eq!(rt; left.err.bytes(), "write fault after 10 bytes\n".as_bytes());
     assert_eq!(rt; left.out.bytes(), "demo 0\nste".as_bytes());
@@ -272,7 +289,7 @@ fn faults_are_told(rt: HostRuntime) -> Result<(), Fail> {
         ),
     ];
     for (failing, status, text, written) in table {
-        let left = run_with(rt.alloc(), &[], SINGLE_CELL, failing)?;
+        let left = run_with(&rt, &[], SINGLE_CELL, failing)?;
         assert_eq!(rt; left.outcome.status, status, "{text}");
         assert_eq!(rt; left.err.bytes(), text.as_bytes(), "{text}");
         assert_eq!(rt; left.out.bytes(), written.as_bytes(), "{text}");
@@ -281,7 +298,7 @@ fn faults_are_told(rt: HostRuntime) -> Result<(), Fail> {
         err: Some(0),
         ..NOWHERE
     };
-    let left = run_with(rt.alloc(), &["--demo"], SINGLE_CELL, untold)?;
+    let left = run_with(&rt, &["--demo"], SINGLE_CELL, untold)?;
     assert!(rt; left.outcome.status == 2 && left.err.bytes().is_empty());
     Ok(())
 }
@@ -315,7 +332,7 @@ fn an_input_is_a_megabyte_at_most(rt: HostRuntime) -> Result<(), Fail> {
         let mut input = MemSource::new(filled(alloc, file, length)?, Vec::new(alloc));
         let mut out = MemSink::new(alloc, 100, 10, Vec::new(alloc))?;
         let mut err = MemSink::new(alloc, 100, 100, Vec::new(alloc))?;
-        let outcome = run(alloc, &[], &mut input, &mut out, &mut err);
+        let outcome = run(&rt, alloc, &[], &mut input, &mut out, &mut err, &Through);
         assert_eq!(rt; outcome.status, status);
         assert_eq!(rt; out.bytes(), report.as_bytes());
         assert_eq!(rt; err.bytes(), text.as_bytes());
@@ -338,7 +355,7 @@ fn the_world_that_ran_is_left(rt: HostRuntime) -> Result<(), Fail> {
         (&[], TOO_MANY_CELLS, None),
     ];
     for (words, file, want) in table {
-        let left = run_with(rt.alloc(), words, file, NOWHERE)?;
+        let left = run_with(&rt, words, file, NOWHERE)?;
         let notes = left.outcome.notes().len();
         let got = left
             .outcome

@@ -4,7 +4,7 @@ ghost use Rattle.peano_run.specs.Texts.{status_of};
 ghost use Rattle.peano_run.specs.declared.asked.Asked.{Asked};
 ghost use Rattle.peano_run.specs.declared.asked.Asked.TheVariants.{File};
 ghost use Rattle.peano_run.specs.declared.asked.Request.{Request};
-ghost use Rattle.peano_run.specs.Asked.{Asks, AreRefused, AskForNoFile, HasTrees, IsTreeCount};
+ghost use Rattle.peano_run.specs.Asked.{Asks, AreRefused, AskForNoFile, HasCrew, IsCrew};
 ghost use Rattle.peano_run.specs.Run.{WritesNothing, ReadFaultRose, WriteFaultRose, Reports, NamesIn, Tells, TellsAnswer};
 ghost use Rattle.peano_run.specs.Left.{LeavesBy, leaves_world};
 ghost use Rattle.peano_run.specs.Served.{Leaves, ReportsFile, Serves};
@@ -19,18 +19,26 @@ use crate::text::refusal_text;
 use command_line::WordsFault;
 use peano_io::{ReadAllFault, Sink, Source, read_all, write_whole};
 use std::alloc::Global;
+use std::thread::Threads;
+use task_pool::Gate;
 
 // The longest input that is read.
 const LONGEST_INPUT: u64 = 1_048_576;
 
 // Reads the source to its end and makes the report of what it had.
-fn report_of<S: Source>(alloc: Global, input: &mut S, request: Request) -> Result<Course, Ending>
+fn report_of<R: Threads + Sync, S: Source, G: Gate>(
+    rt: &R,
+    alloc: Global,
+    input: &mut S,
+    request: Request,
+    gate: &G,
+) -> Result<Course, Ending>
     requires fresh { S.ended input.old ≡ false }
-    requires trees { IsTreeCount request.trees }
+    requires crew { IsCrew request.trees request.workers }
     ensures { Reports request (S.left input.old) (S.left input.new) (S.ended input.new) (S.faults input.old) (S.faults input.new) result }
 {
     match read_all(alloc, input, LONGEST_INPUT) {
-        Ok(bytes) => report(alloc, bytes.as_slice(), request),
+        Ok(bytes) => report(rt, alloc, bytes.as_slice(), request, gate),
         Err(ReadAllFault::ReadFault) => Err(Ending::of(Answer::ReadFault)),
         Err(ReadAllFault::TooLong) => Err(Ending::of(Answer::TooLong)),
         Err(ReadAllFault::NoMemory) => Err(Ending::of(Answer::NoMemory)),
@@ -38,14 +46,16 @@ fn report_of<S: Source>(alloc: Global, input: &mut S, request: Request) -> Resul
 }
 
 // Reads the input, and writes its report.
-fn reported<S: Source, K: Sink>(
+fn reported<R: Threads + Sync, S: Source, K: Sink, G: Gate>(
+    rt: &R,
     alloc: Global,
     request: Request,
     input: &mut S,
     out: &mut K,
+    gate: &G,
 ) -> Ending
     requires fresh { S.ended input.old ≡ false }
-    requires trees { IsTreeCount request.trees }
+    requires crew { IsCrew request.trees request.workers }
     ensures served { result.answer ≢ Answer.Usage }
     ensures reports { ReportsFile request result.answer (S.left input.old) (S.left input.new) (S.ended input.new) (K.taken out.old) (K.taken out.new) }
     ensures world { LeavesBy request result.answer (S.left input.old) result.world }
@@ -54,7 +64,7 @@ fn reported<S: Source, K: Sink>(
     ensures write_fault { WriteFaultRose result.answer (K.faults out.old) (K.faults out.new) }
     ensures named { NamesIn result.dim result.answer (S.left input.old) }
 {
-    let course = match report_of(alloc, input, request) {
+    let course = match report_of(rt, alloc, input, request, gate) {
         Ok(course) => course,
         Err(ending) => return ending,
     };
@@ -70,9 +80,16 @@ fn reported<S: Source, K: Sink>(
 }
 
 // Does what is asked for: the demonstration of a number, or the report of the input.
-fn served<S: Source, K: Sink>(alloc: Global, asked: Asked, input: &mut S, out: &mut K) -> Ending
+fn served<R: Threads + Sync, S: Source, K: Sink, G: Gate>(
+    rt: &R,
+    alloc: Global,
+    asked: Asked,
+    input: &mut S,
+    out: &mut K,
+    gate: &G,
+) -> Ending
     requires fresh { S.ended input.old ≡ false }
-    requires trees { HasTrees asked }
+    requires crew { HasCrew asked }
     ensures served { result.answer ≢ Answer.Usage }
     ensures unread { ((r : Request) → asked ≢ File r) → input.new ≡ input.old }
     ensures serves { Serves asked result.answer (S.left input.old) (S.left input.new) (S.ended input.new) (K.taken out.old) (K.taken out.new) }
@@ -83,13 +100,24 @@ fn served<S: Source, K: Sink>(alloc: Global, asked: Asked, input: &mut S, out: &
     ensures named { NamesIn result.dim result.answer (S.left input.old) }
 {
     match asked {
-        Asked::Demo { number, trees } => demonstrated(alloc, number, trees, out),
-        Asked::File(request) => reported(alloc, request, input, out),
+        Asked::Demo {
+            number,
+            trees,
+            workers,
+        } => demonstrated(rt, alloc, number, trees, workers, out, gate),
+        Asked::File(request) => reported(rt, alloc, request, input, out, gate),
     }
 }
 
 // Reads the words, and does what they ask for.
-fn ended<S: Source, K: Sink>(alloc: Global, words: &[String], input: &mut S, out: &mut K) -> Ending
+fn ended<R: Threads + Sync, S: Source, K: Sink, G: Gate>(
+    rt: &R,
+    alloc: Global,
+    words: &[String],
+    input: &mut S,
+    out: &mut K,
+    gate: &G,
+) -> Ending
     requires { S.ended input.old ≡ false }
     ensures usage { result.answer ≡ Answer.Usage → AreRefused (map string_bytes words.now) }
     ensures refused { AreRefused (map string_bytes words.now)
@@ -105,7 +133,7 @@ fn ended<S: Source, K: Sink>(alloc: Global, words: &[String], input: &mut S, out
     ensures named { NamesIn result.dim result.answer (S.left input.old) }
 {
     match asked_in(alloc, words) {
-        Ok(asked) => served(alloc, asked, input, out),
+        Ok(asked) => served(rt, alloc, asked, input, out, gate),
         Err(WordsFault::Usage) => Ending::of(Answer::Usage),
         Err(WordsFault::NoMemory) => Ending::of(Answer::NoMemory),
     }
@@ -123,14 +151,17 @@ fn tell<E: Sink>(err: &mut E, text: &[u8])
 
 /// Reads a file from `input`, takes the steps that it asks for, and writes the report of its printed steps to `out`; or, with
 /// `--demo N`, takes the steps of a demonstration and writes its summary. `words` are those of the command line without the
-/// program's name. Those that mean nothing are refused, and so are, as yet, helpers. The text of a refusal goes to `err`.
+/// program's name; those that mean nothing are refused. The text of a refusal goes to `err`. `gate` is told of each task that
+/// a thread computes.
 /// Nothing is written before the last step. The outcome carries the world that ran, with the notes of its sweeps.
-pub fn run<S: Source, K: Sink, E: Sink>(
+pub fn run<R: Threads + Sync, S: Source, K: Sink, E: Sink, G: Gate>(
+    rt: &R,
     alloc: Global,
     words: &[String],
     input: &mut S,
     out: &mut K,
     err: &mut E,
+    gate: &G,
 ) -> Outcome
     requires { S.ended input.old ≡ false }
 
@@ -163,7 +194,7 @@ pub fn run<S: Source, K: Sink, E: Sink>(
     ensures status { result.status ≡ status_of result.answer }
     ensures text { TellsAnswer result.answer (S.left input.old) (E.taken err.old) (E.taken err.new) (E.faults err.old) (E.faults err.new) }
 {
-    let ending = ended(alloc, words, input, out);
+    let ending = ended(rt, alloc, words, input, out, gate);
     tell(err, refusal_text(ending.dim, &ending.answer).as_slice());
     Outcome {
         status: ending.answer.status(),

@@ -1,7 +1,7 @@
 -- What the contracts of a desk's calls say is a deed.
 use Rattle.std.proofs.Common.{◌≡◌, ℕ, Bool, true, false, refl}
 use Rattle.std.specs.Prelude.{MatchBool}
-use Rattle.solver_api.specs.declared.solver.Solver.{Ghosts}
+use Rattle.result_table.specs.declared.updates.Updates.{Ghosts}
 use Rattle.result_table.specs.declared.view.View.{View}
 use Rattle.result_table.specs.declared.parts.Gathered.{Gathered}
 use Rattle.result_table.specs.declared.parts.Gathered.TheVariants as found

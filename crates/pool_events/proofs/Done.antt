@@ -3,7 +3,7 @@ use Rattle.std.proofs.Common.{◌≡◌, ◌≢◌, ℕ, ◌+◌, ◌<◌, true,
 use Rattle.std.proofs.lemmas.Bool.{false≢true}
 use Rattle.std.specs.Prelude.{slice_index, ◌⊎◌}
 use mathlib.Core.Option.{some-injective}
-use Rattle.solver_api.specs.declared.solver.Solver.{Ghosts}
+use Rattle.result_table.specs.declared.updates.Updates.{Ghosts}
 use Rattle.result_table.specs.declared.view.View.{View}
 use Rattle.result_table.specs.declared.view.Brief.{Brief}
 use Rattle.result_table.specs.declared.word.Word.TheVariants.{Free, Taken, Published, Collected}

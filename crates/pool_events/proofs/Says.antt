@@ -1,7 +1,7 @@
 -- The word of a task is told by what seats know of it: where they know the same, the word is the same.
 use Rattle.std.proofs.Common.{◌≡◌, ℕ, ◌+◌, ◌<◌, sym, refl, ◌∙◌, ⊎_elim, inl, inr}
 use Rattle.std.specs.Prelude.{slice_index}
-use Rattle.solver_api.specs.declared.solver.Solver.{Ghosts}
+use Rattle.result_table.specs.declared.updates.Updates.{Ghosts}
 use Rattle.result_table.specs.declared.view.View.{View}
 use Rattle.result_table.specs.declared.view.Brief.{Brief}
 use Rattle.result_table.specs.declared.word.Word.{Word}

@@ -1,7 +1,7 @@
 -- Each deed of a desk is its event.
 use Rattle.std.proofs.Common.{◌≡◌, ◌≢◌, ℕ, ◌+◌, ◌<◌, ◌==◌, Bool, true, false, not, length, set, refl, sym, ap, subst, ◌∙◌, arith, Some, IsSome, inl, inr, eq-eqb, ne_eqb}
 use Rattle.std.specs.Prelude.{slice_index, if◌then◌else◌}
-use Rattle.solver_api.specs.declared.solver.Solver.{Ghosts}
+use Rattle.result_table.specs.declared.updates.Updates.{Ghosts}
 use Rattle.solver_api.specs.Step.{UpdateRule}
 use Rattle.result_table.specs.declared.view.Brief.{Brief}
 use Rattle.result_table.specs.declared.word.Word.TheVariants.{Free, Taken, Published, Collected}

@@ -1,6 +1,6 @@
 -- The calls of a desk and of a hand as deeds.
 use Rattle.std.specs.Prelude.{◌≡◌, ℕ, Bool, true, false}
-use Rattle.solver_api.specs.declared.solver.Solver.{Ghosts}
+use Rattle.result_table.specs.declared.updates.Updates.{Ghosts}
 use Rattle.result_table.specs.declared.view.View.{View}
 use Rattle.result_table.specs.declared.parts.Gathered.{Gathered}
 use Rattle.result_table.specs.declared.parts.Gathered.TheVariants as found
@@ -21,6 +21,7 @@ abbrev pub ending_as : Bool → ℕ → ℕ → Deed
 ending_as true s k = Publishes s k
 ending_as false s k = ComesLate s k
 
+-- a publication was made: the slot was fetched, and then it was published or came too late
 pub record DidPublish {S : Type 0} (won : Bool) (s k : ℕ) (v w : View S) : Type 0 where
   pub fetched : View S
   pub fetches : Did (Fetches s k) v fetched

@@ -1,7 +1,7 @@
 -- What a seat may do at the word of a task, as the contracts of the desk tell it, and which event of a step that is.
 use Rattle.std.specs.Prelude.{◌≡◌, ◌≢◌, ℕ, Bool, true, false, Option, Some, None}
 use lib.ListN.{get_elem?}
-use Rattle.solver_api.specs.declared.solver.Solver.{Ghosts}
+use Rattle.result_table.specs.declared.updates.Updates.{Ghosts}
 use Rattle.result_table.specs.declared.view.View.{View}
 use Rattle.result_table.specs.Views.{DeskState, has, with_claimed, with_lost, with_filling, with_published, with_late, with_gathered, with_idle, with_busy}
 use Rattle.result_table.specs.Rule.{IsView}
@@ -21,6 +21,7 @@ pub data Deed : Type 0 where
   FindsIdle : ℕ → Deed
   FindsBusy : ℕ → Deed
 
+-- the seat that did it: seat 0 gathers
 abbrev pub seat_of : Deed → ℕ
 seat_of (Wins s k) = s
 seat_of (Loses s k) = s
@@ -31,6 +32,7 @@ seat_of (Gathers k) = 0
 seat_of (FindsIdle k) = 0
 seat_of (FindsBusy k) = 0
 
+-- the task that it was done to
 abbrev pub task_of : Deed → ℕ
 task_of (Wins s k) = k
 task_of (Loses s k) = k

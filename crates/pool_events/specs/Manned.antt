@@ -3,7 +3,7 @@ use Rattle.std.specs.Prelude.{◌≡◌, ◌⊎◌, ℕ, List, [], Some, slice_g
 use mathlib.Core.Option.{some}
 use lib.ListN.{get_elem?}
 use Rattle.crossbeam_deque.specs.Handles.{view}
-use Rattle.solver_api.specs.declared.solver.Solver.{Ghosts}
+use Rattle.result_table.specs.declared.updates.Updates.{Ghosts}
 use Rattle.result_table.specs.declared.view.View.{View}
 use Rattle.result_table.specs.Rule.{DeskRule, IsView}
 use Rattle.result_table.specs.Seats.{IsUncollected, view_of}
@@ -39,7 +39,8 @@ module _ {S : Type 0} {g : Ghosts S} where
     pub deque : IsFair m.queue m.logs
     pub spawned : m.spawned ≡ spawned_of h
     pub log : get_elem? m.logs 0 ≡ some (hand_log h)
-    pub seats : (i : ℕ) (v : View S) → IsView m.desk i v → (v ≡ hand_view h) ⊎ IsHelpers helpers tree m.logs v
+    pub seats : (i : ℕ) (v : View S) → IsView m.desk i v
+        → (v ≡ hand_view h) ⊎ IsHelpers helpers tree m.logs v
 
   -- no task of the tree was spawned, nor collected
   pub record IsNew (m : Moment S g) : Type 0 where

@@ -1,6 +1,6 @@
 -- A desk's deed beside a core of the step: which core agrees with a tree of the pool, and when the deed is an event of it.
 use Rattle.std.specs.Prelude.{◌≡◌, ◌≢◌, ℕ, ◌<◌, Bool, Option, Some, None, IsSome, is_some}
-use Rattle.solver_api.specs.declared.solver.Solver.{Ghosts}
+use Rattle.result_table.specs.declared.updates.Updates.{Ghosts}
 use Rattle.solver_api.specs.Step.{UpdateRule}
 use Rattle.task_core.specs.declared.event.Event.{Event}
 use Rattle.task_core.specs.declared.event.Sweep.TheVariants.{Second, Over}

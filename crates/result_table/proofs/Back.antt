@@ -6,7 +6,7 @@ use mathlib.Core.Option.{some-injective}
 use mathlib.Core.Logic.{dite}
 use native.Mathlib.Decide.{ℕ_discrete, dec_lt}
 use Rattle.atomic_table.specs.Table.{Allows, Me}
-use Rattle.solver_api.specs.declared.solver.Solver.{Ghosts}
+use Rattle.result_table.specs.declared.updates.Updates.{Ghosts}
 use Rattle.result_table.specs.Views.{DeskState, has, is_number}
 use Rattle.result_table.specs.Rule.{DeskRule, IsView, IsClaimed, IsPublished, IsCollected}
 use Rattle.result_table.specs.Words.{code}

@@ -6,7 +6,7 @@ use mathlib.Core.Logic.{dite}
 use native.Mathlib.Decide.{ℕ_discrete}
 use prog.Atomic.{either}
 use Rattle.atomic_table.specs.Table.{Act, keeps, Valid, stepped, step, Allows, carried_after}
-use Rattle.solver_api.specs.declared.solver.Solver.{Ghosts}
+use Rattle.result_table.specs.declared.updates.Updates.{Ghosts}
 use Rattle.result_table.specs.Views.{with_claimed, with_lost}
 use Rattle.result_table.proofs.Fates.{Fate, unclaimed, claimed, Fits, Marks, marks, word_of, SlotOf, Holds}
 use Rattle.result_table.specs.Words.{code}

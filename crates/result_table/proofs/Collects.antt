@@ -6,7 +6,7 @@ use mathlib.Core.Option.{some, none}
 use lib.ListN.{get_elem?}
 use Rattle.atomic_table.specs.Table.{Act, keeps, takes, Valid, stepped, step, Allows, carried_after}
 use Rattle.atomic_table.proofs.Lists.{set_else}
-use Rattle.solver_api.specs.declared.solver.Solver.{Ghosts}
+use Rattle.result_table.specs.declared.updates.Updates.{Ghosts}
 use Rattle.result_table.specs.Views.{DeskState, HasResult, with_busy, with_gathered, with_idle}
 use Rattle.result_table.proofs.Fates.{Fate, unclaimed, claimed, filled, published, gathered, idle, busy, overtaken, late, Fits, Marks, marks, word_of, SlotOf, Holds, Keeps}
 use Rattle.result_table.proofs.Fates as fates

@@ -1,6 +1,6 @@
 -- What follows from the sentences of the rule of the desk.
 use Rattle.std.proofs.Common.{◌≡◌, ℕ, ◌<◌, true}
-use Rattle.solver_api.specs.declared.solver.Solver.{Ghosts}
+use Rattle.result_table.specs.declared.updates.Updates.{Ghosts}
 use Rattle.result_table.specs.declared.view.View.{View}
 use Rattle.result_table.specs.declared.view.Brief.{Brief}
 use Rattle.result_table.specs.Views.{DeskState, has}

@@ -2,7 +2,7 @@
 use Rattle.std.specs.Prelude.{◌≡◌, ◌≢◌, ℕ, ◌+◌, ◌<◌, ◌==◌, Bool, true, false, List, length, slice_index}
 use mathlib.Core.Option.{some}
 use lib.ListN.{get_elem?}
-use Rattle.solver_api.specs.declared.solver.Solver.{Ghosts}
+use Rattle.result_table.specs.declared.updates.Updates.{Ghosts}
 use Rattle.result_table.specs.declared.view.View.{View}
 use Rattle.result_table.specs.declared.view.Brief.{Brief}
 use Rattle.result_table.specs.declared.word.Word.{Word}

@@ -5,7 +5,7 @@ use mathlib.Core.Logic.{dite}
 use native.Mathlib.Decide.{ℕ_discrete}
 use lib.ListN.{get_elem?}
 use Rattle.atomic_table.proofs.Lists.{at_set}
-use Rattle.solver_api.specs.declared.solver.Solver.{Ghosts}
+use Rattle.result_table.specs.declared.updates.Updates.{Ghosts}
 use Rattle.result_table.specs.Views.{DeskState, Homes}
 use Rattle.result_table.proofs.Fates.{Fate, Fits, Marks, marks, word_of, claims, SlotOf, FitsSeat, FitsTask, Keeps, Holds}
 use Rattle.result_table.specs.Words.{code}

@@ -7,7 +7,7 @@ use lib.ListN.{get_elem?}
 use prog.Atomic.{either}
 use Rattle.atomic_table.specs.Table.{Act, keeps, takes, gives, Valid, stepped, step, Allows, carried_after}
 use Rattle.atomic_table.proofs.Lists.{set_here, set_else}
-use Rattle.solver_api.specs.declared.solver.Solver.{Ghosts}
+use Rattle.result_table.specs.declared.updates.Updates.{Ghosts}
 use Rattle.result_table.specs.Views.{DeskState, Homes, IsAtHome, has, is_number, with_filling, with_late, with_published}
 use Rattle.result_table.proofs.Fates.{Fate, unclaimed, claimed, filled, published, gathered, idle, busy, overtaken, late, Fits, Marks, marks, word_of, SlotOf, Holds, Keeps}
 use Rattle.result_table.proofs.Fates as fates

@@ -1,7 +1,7 @@
 -- What each step on a task's word tells the seat that makes it.
 use Rattle.std.specs.Prelude.{◌≡◌, ℕ, zero, suc, ◌-◌, ◌==◌, Bool, false, ◌∷◌, Option, MatchBool}
 use Rattle.atomic_table.specs.Table.{Step, Me, rest}
-use Rattle.solver_api.specs.declared.solver.Solver.{Ghosts}
+use Rattle.result_table.specs.declared.updates.Updates.{Ghosts}
 use Rattle.result_table.specs.declared.done.Done.{Done}
 use Rattle.result_table.specs.declared.view.View.{View}
 use Rattle.result_table.specs.Views.{HasResult, has, with_claimed, with_lost, with_filling, with_published, with_late, with_gathered, with_idle, with_busy}
@@ -21,7 +21,8 @@ module _ {S : Type 0} {g : Ghosts S} where
 
   -- a claim that was won, or lost
   abbrev pub Claimed : Bool → ℕ → Mine S g → Mine S g → Type 0
-  Claimed won k v w = (w.1 ≡ v.1) × MatchBool won ((w.0 ≡ with_claimed v.0 k) × IsFresh v.0 k) (w.0 ≡ with_lost v.0 k)
+  Claimed won k v w = (w.1 ≡ v.1)
+      × MatchBool won ((w.0 ≡ with_claimed v.0 k) × IsFresh v.0 k) (w.0 ≡ with_lost v.0 k)
 
   -- it was won where the word found was Free
   abbrev pub Claims : Step (Option (Done S g)) → Mine S g → ℕ → Mine S g → Type 0
@@ -29,7 +30,8 @@ module _ {S : Type 0} {g : Ghosts S} where
 
   -- the slot of a task that this seat claimed comes out
   abbrev pub Fetches : Step (Option (Done S g)) → Mine S g → ℕ → Mine S g → Type 0
-  Fetches s v found w = (w.0 ≡ with_filling v.0 (number_of s)) × ((y : Option (Done S g)) × (w.1 ≡ (number_of s, y) ∷ v.1))
+  Fetches s v found w = (w.0 ≡ with_filling v.0 (number_of s))
+      × ((y : Option (Done S g)) × (w.1 ≡ (number_of s, y) ∷ v.1))
 
   -- the result in the slot that is out is published, or came late and stays out
   abbrev pub Ended : Bool → ℕ → Mine S g → Mine S g → Type 0
@@ -42,8 +44,10 @@ module _ {S : Type 0} {g : Ghosts S} where
   -- the word found was Free, Published, or that of a seat
   abbrev pub CollectedAt : ℕ → ℕ → Mine S g → Mine S g → Type 0
   CollectedAt zero k v w = w ≡ (with_idle v.0 k, v.1)
-  CollectedAt (suc zero) k v w = (w.0 ≡ with_gathered v.0 k) × ((y : Option (Done S g)) × (w.1 ≡ (k, y) ∷ v.1) × HasResult v.0.solver k y)
+  CollectedAt (suc zero) k v w = (w.0 ≡ with_gathered v.0 k)
+      × ((y : Option (Done S g)) × (w.1 ≡ (k, y) ∷ v.1) × HasResult v.0.solver k y)
   CollectedAt (suc (suc n)) k v w = w ≡ (with_busy v.0 k, v.1)
 
+  -- a collection at the word of a step, by what it found there
   abbrev pub Collects : Step (Option (Done S g)) → Mine S g → ℕ → Mine S g → Type 0
   Collects s v found w = CollectedAt found (number_of s) v w

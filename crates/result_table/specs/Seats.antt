@@ -2,7 +2,7 @@
 use Rattle.std.specs.Prelude.{◌≡◌, ℕ, zero, suc, [], false, Option, None}
 use Rattle.atomic_table.specs.Seated.{TableId}
 use Rattle.atomic_table.specs.declared.shared.Seat.{Seat}
-use Rattle.solver_api.specs.declared.solver.Solver.{Ghosts}
+use Rattle.result_table.specs.declared.updates.Updates.{Ghosts}
 use Rattle.result_table.specs.declared.done.Done.{Done}
 use Rattle.result_table.specs.declared.view.View.{View}
 use Rattle.result_table.specs.declared.parts.Desk.{Desk}
@@ -22,6 +22,7 @@ abbrev pub IsUncollected : {S : Type 0} → View S → ℕ → Type 0
 IsUncollected v k = (has v.gathered k ≡ false) × (has v.idle k ≡ false) × (has v.busy k ≡ false)
 
 module _ {S : Type 0} {g : Ghosts S} where
+  -- a seat of a desk that has done nothing yet
   abbrev pub IsNewSeat : TableId → S → ℕ → ℕ → Seat (Option (Done S g)) (View S) → Type 0
   IsNewSeat desk solver made i s = (s.table_id ≡ desk) × (s.me ≡ (newcomer solver i made, []))
 
@@ -29,6 +30,7 @@ module _ {S : Type 0} {g : Ghosts S} where
   abbrev pub size_of : Desk S g → ℕ
   size_of d = d.size
 
+  -- the solver of a desk
   abbrev pub desk_solver : Desk S g → S
   desk_solver d = d.table.shared.key.solver.value
 
@@ -44,6 +46,7 @@ module _ {S : Type 0} {g : Ghosts S} where
 
   -- what a collection of task k answers, and what the first seat knows then
   abbrev pub Found : ℕ → View S → View S → Gathered S g → Type 0
-  Found k v w (found.Taken d) = (w ≡ with_gathered v k) × ((task_of d).task ≡ k) × (solver_of d ≡ v.solver)
+  Found k v w (found.Taken d) = (w ≡ with_gathered v k) × ((task_of d).task ≡ k)
+      × (solver_of d ≡ v.solver)
   Found k v w found.Free = w ≡ with_idle v k
   Found k v w found.Running = w ≡ with_busy v k

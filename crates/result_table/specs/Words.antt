@@ -49,11 +49,13 @@ exchanged found old new = if found == old then new else found
 
 -- a claim's compare and exchange from Free moves a word as taking does
 abbrev pub ClaimIsTake : Type 0
-ClaimIsTake = (seat : ℕ) (w : Word) → exchanged (code w) (code Free) (code (Taken seat)) ≡ code (after w (taken seat w))
+ClaimIsTake = (seat : ℕ) (w : Word)
+    → exchanged (code w) (code Free) (code (Taken seat)) ≡ code (after w (taken seat w))
 
 -- a publication's compare and exchange from Taken moves a word as publishing does
 abbrev pub PublicationIsPublish : Type 0
-PublicationIsPublish = (seat : ℕ) (w : Word) → exchanged (code w) (code (Taken seat)) (code Published) ≡ code (after w (published seat w))
+PublicationIsPublish = (seat : ℕ) (w : Word)
+    → exchanged (code w) (code (Taken seat)) (code Published) ≡ code (after w (published seat w))
 
 -- a collection's exchange by Collected moves a word as collecting does
 abbrev pub CollectionIsCollect : Type 0

@@ -1,6 +1,6 @@
 //! The calls of a desk.
 ghost use Rattle.std.specs.Prelude.{◌≡◌, ℕ, ◌+◌, ◌-◌, ◌<◌, ◌≤◌, ◌^◌, [], true, false, vec_len, vec_capacity, replicate, slice_index_or, IfOk, MatchBool};
-ghost use Rattle.solver_api.specs.declared.solver.Solver.{Ghosts};
+ghost use Rattle.result_table.specs.declared.updates.Updates.{Ghosts};
 ghost use Rattle.result_table.specs.declared.parts.DeskSeat.{DeskSeat};
 ghost use Rattle.result_table.specs.Seen.{task_of, solver_of};
 ghost use Rattle.result_table.specs.Views.{has, newcomer, with_claimed, with_lost, with_published, with_late};
@@ -10,11 +10,11 @@ ghost use Rattle.result_table.specs.Seats.{IsNewSeat, IsSeatOf, IsUncollected, F
 use crate::done::Done;
 use crate::parts::{Desk, DeskSeat, Gathered};
 use crate::rule::{Another, Claim, Collect, Fetch, Publish};
+use crate::updates::Updates;
 use crate::view::{Brief, View};
 use crate::witness::Witness;
 use crate::word::{COLLECTED, FREE, PUBLISHED, Word};
 use atomic_table::{Seat, Table};
-use solver_api::Solver;
 use std::alloc::{AllocError, Global};
 
 fn zeros(alloc: Global, count: usize) -> Result<Vec<u64>, AllocError>
@@ -23,7 +23,7 @@ fn zeros(alloc: Global, count: usize) -> Result<Vec<u64>, AllocError>
     Ok(Vec::from_elem(alloc, 0u64, count)?)
 }
 
-impl<S: Solver> Desk<S> {
+impl<S: Updates> Desk<S> {
     /// A desk of this many tasks, all Free, with its seats in the order of their numbers. Seat 0 gathers.
     /// The desk and its seats are given up by dropping them. Refused for want of memory alone.
     pub fn new(
@@ -36,7 +36,8 @@ impl<S: Solver> Desk<S> {
         requires small { size < 2 ^ 32 - 1 }
         ensures desk { IfOk result (λ r. (size_of r.0 ≡ size) × (desk_solver r.0 ≡ solver.now)) }
         ensures count { IfOk result (λ r. vec_len r.1 ≡ seats) }
-        ensures each { IfOk result (λ r. (i : ℕ) (d : _) → i < seats → IsSeatOf r.0 (slice_index_or r.1.items i d) × (view_of (slice_index_or r.1.items i d) ≡ newcomer solver.now i (made_by seats i))) }
+        ensures each { IfOk result (λ r. (i : ℕ) (d : _) → i < seats
+            → IsSeatOf r.0 (slice_index_or r.1.items i d) × (view_of (slice_index_or r.1.items i d) ≡ newcomer solver.now i (made_by seats i))) }
     {
         let words = zeros(alloc, size as usize + 1)?;
         let brief = Brief {
@@ -61,7 +62,8 @@ impl<S: Solver> Desk<S> {
         requires empty { all.old.items ≡ [] }
         requires room { (1 ≤ seats) × (seats ≤ vec_capacity all.old) }
         ensures count { vec_len all.new ≡ seats }
-        ensures each { (i : ℕ) (d : _) → i < seats → IsNewSeat self.now.table.shared.table_id (desk_solver self.now) (made_by seats i) i (slice_index_or all.new.items i d).seat }
+        ensures each { (i : ℕ) (d : _) → i < seats
+            → IsNewSeat self.now.table.shared.table_id (desk_solver self.now) (made_by seats i) i (slice_index_or all.new.items i d).seat }
     {
         let mut seat = first;
         let mut number = 1;
@@ -104,7 +106,8 @@ impl<S: Solver> Desk<S> {
         requires seat { IsSeatOf self.now seat.old }
         requires task { k < size_of self.now }
         requires claimed { has (view_of seat.old).claimed k ≡ true }
-        requires fresh { (has (view_of seat.old).published k ≡ false) × (has (view_of seat.old).late k ≡ false) }
+        requires fresh { (has (view_of seat.old).published k ≡ false)
+            × (has (view_of seat.old).late k ≡ false) }
         requires done { ((task_of done).task ≡ k) × (solver_of done ≡ desk_solver self.now) }
         ensures seat { IsSeatOf self.now seat.new }
         ensures view { MatchBool result (view_of seat.new ≡ with_published (view_of seat.old) k) (view_of seat.new ≡ with_late (view_of seat.old) k) }

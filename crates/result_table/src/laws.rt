@@ -5,17 +5,17 @@ ghost use Rattle.result_table.specs.Words.{ClaimIsTake, PublicationIsPublish, Co
 ghost use Rattle.result_table.specs.Laws.{OnePublication, OneCollection};
 
 use crate::parts::Desk;
-use solver_api::Solver;
+use crate::updates::Updates;
 
 /// No task is published by two seats.
-pub fn one_publication<S: Solver>(desk: &Desk<S>)
+pub fn one_publication<S: Updates>(desk: &Desk<S>)
     ensures { OnePublication desk.now }
 {
     let _ = desk;
 }
 
 /// A task is gathered, or found idle, or found busy, and no two of these.
-pub fn one_collection<S: Solver>(desk: &Desk<S>)
+pub fn one_collection<S: Updates>(desk: &Desk<S>)
     ensures { OneCollection desk.now }
 {
     let _ = desk;

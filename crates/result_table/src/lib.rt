@@ -13,6 +13,7 @@ mod task;
 mod tests;
 #[cfg(test)]
 mod threads;
+mod updates;
 mod view;
 mod witness;
 mod word;
@@ -20,6 +21,7 @@ mod word;
 pub use done::Done;
 pub use parts::{Desk, DeskSeat, Gathered};
 pub use task::Task;
+pub use updates::Updates;
 pub use view::{Brief, View};
 pub use witness::Witness;
 pub use word::Word;

@@ -1,8 +1,8 @@
 //! The rule of the desk as the rule of a table of atomic words and slots, and what each step tells.
 use crate::done::Done;
+use crate::updates::Updates;
 use crate::view::{Brief, View};
 use atomic_table::{Play, Split, TableRule};
-use solver_api::Solver;
 use std::marker::PhantomData;
 
 /// The rule that holds between any two steps.
@@ -10,7 +10,7 @@ pub struct Ruled<S> {
     of: PhantomData<S>,
 }
 
-impl<S: Solver> TableRule<Option<Done<S>>, View<S>, Brief<S>> for Ruled<S> {
+impl<S: Updates> TableRule<Option<Done<S>>, View<S>, Brief<S>> for Ruled<S> {
     ghost use Rattle.result_table.specs.Rule.{DeskRule};
     ghost use Rattle.result_table.specs.Views.{newcomer};
 
@@ -22,7 +22,7 @@ impl<S: Solver> TableRule<Option<Done<S>>, View<S>, Brief<S>> for Ruled<S> {
 /// A compare and exchange from Free to Taken.
 pub struct Claim;
 
-impl<S: Solver> Play<Option<Done<S>>, View<S>> for Claim {
+impl<S: Updates> Play<Option<Done<S>>, View<S>> for Claim {
     ghost use Rattle.result_table.specs.Plays.{Claims};
 
     ghost then = { Claims };
@@ -31,7 +31,7 @@ impl<S: Solver> Play<Option<Done<S>>, View<S>> for Claim {
 /// A load, by which the slot of a claimed task comes out to take its result.
 pub struct Fetch;
 
-impl<S: Solver> Play<Option<Done<S>>, View<S>> for Fetch {
+impl<S: Updates> Play<Option<Done<S>>, View<S>> for Fetch {
     ghost use Rattle.result_table.specs.Plays.{Fetches};
 
     ghost then = { Fetches };
@@ -40,7 +40,7 @@ impl<S: Solver> Play<Option<Done<S>>, View<S>> for Fetch {
 /// A compare and exchange from Taken to Published.
 pub struct Publish;
 
-impl<S: Solver> Play<Option<Done<S>>, View<S>> for Publish {
+impl<S: Updates> Play<Option<Done<S>>, View<S>> for Publish {
     ghost use Rattle.result_table.specs.Plays.{Publishes};
 
     ghost then = { Publishes };
@@ -49,7 +49,7 @@ impl<S: Solver> Play<Option<Done<S>>, View<S>> for Publish {
 /// An exchange by Collected.
 pub struct Collect;
 
-impl<S: Solver> Play<Option<Done<S>>, View<S>> for Collect {
+impl<S: Updates> Play<Option<Done<S>>, View<S>> for Collect {
     ghost use Rattle.result_table.specs.Plays.{Collects};
 
     ghost then = { Collects };

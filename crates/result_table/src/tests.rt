@@ -47,8 +47,10 @@ struct Pair {
 
 fn seated(alloc: Global, solver: &Diffuse) -> Result<Pair, AllocError>
     ensures desk { IfOk result (λ t. (size_of t.desk ≡ 1) × (desk_solver t.desk ≡ solver.now)) }
-    ensures first { IfOk result (λ t. IsSeatOf t.desk t.first × (view_of t.first ≡ newcomer solver.now 0 2)) }
-    ensures second { IfOk result (λ t. IsSeatOf t.desk t.second × (view_of t.second ≡ newcomer solver.now 1 0)) }
+    ensures first { IfOk result (λ t. IsSeatOf t.desk t.first
+        × (view_of t.first ≡ newcomer solver.now 0 2)) }
+    ensures second { IfOk result (λ t. IsSeatOf t.desk t.second
+        × (view_of t.second ≡ newcomer solver.now 1 0)) }
 {
     let (desk, mut seats) = Desk::new(alloc, 1, 2, solver)?;
     let second = seats.pop().unwrap();

@@ -13,6 +13,7 @@ use Rattle.sweep_streams.specs.Streams.{ComesAfter}
 use Rattle.vertex_stacks.specs.declared.kind.Kind.TheVariants as kind
 use Rattle.vertex_stacks.specs.Notes.{Note}
 use Rattle.vertex_stacks.specs.Tales.{capped}
+use Rattle.tree_automaton.specs.Noted.{note_of}
 use Rattle.tree_automaton.specs.TreeLists.{TreeLists}
 use Rattle.tree_automaton.specs.Sweep.{TreeSweep, IsTreeSweep}
 use Rattle.tree_automaton.specs.Promises.{Meaning}
@@ -77,7 +78,7 @@ module _ (start end : ShowWork) (dir : Direction) (g : Spacetree) (f : States) (
       (says_after start end dir g f parts step s t note q.task on same_tree no_rows nothing swept) (rest_is_said cuts g f s.tree s.tree dir s on.grid on.stands)
 
   noted_by : SweepPlan → ℕ → Note
-  noted_by x n = record { step = step; kind = kind.Show; tree = n; taken = capped (length (taken_by (moves_of x))); put = capped (length (put_by (moves_of x))); pushed = capped (length (pushed_by (moves_of x))) }
+  noted_by x n = note_of x kind.Show step n
 
   abbrev here : SweepPlan
   here = plain_plan cuts.depth (range_of cuts s.tree) dir g
@@ -113,7 +114,7 @@ module _ (start end : ShowWork) (dir : Direction) (g : Spacetree) (f : States) (
     };
     rows = subst (ListsAll (IsRowOf cuts g f s.tree)) (sym rows_are) (subst (λ n. ListsAll (IsRowOf cuts g f n) end.rows) same_tree (rows_shown start end dir g f parts step s t note q.task on same_tree no_rows nothing swept));
     traffic = traffic;
-    noted = record { note_is = note_here; tale = gives.tale_is };
+    noted = record { counts = note_here; tale = gives.tale_is };
     moved = record { taken = taken_is ∙ put_is; put = put_is; pushed = sym (ap (λ (x : Traffic). x.pushes) traffic_is) };
   }
 

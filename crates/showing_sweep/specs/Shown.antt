@@ -61,4 +61,5 @@ pub record AreAmounts (k : Cuts) (g : Spacetree) (t : ℕ) (n : Amounts) : Type 
 pub record IsTraffic (k : Cuts) (g : Spacetree) (t : ℕ) (traffic : Traffic) : Type 0 where
   pub amounts : Amounts
   pub are : AreAmounts k g t amounts
-  pub told : traffic ≡ record { tree = t; cells = capped amounts.cells; stored = capped amounts.stored; pushes = capped amounts.pushes; hanging = capped amounts.hanging; enclave = capped amounts.enclave; skeleton = capped amounts.skeleton; sent = capped amounts.sent }
+  pub told : traffic
+      ≡ record { tree = t; cells = capped amounts.cells; stored = capped amounts.stored; pushes = capped amounts.pushes; hanging = capped amounts.hanging; enclave = capped amounts.enclave; skeleton = capped amounts.skeleton; sent = capped amounts.sent }

@@ -2,18 +2,16 @@
 use Rattle.std.specs.Prelude.{◌≡◌, ◌⊎◌, ◌↔◌, ℕ, ◌+◌, Bool, true, false, IsTrue, IsFalse, List, [], ◌∷◌, ◌++◌, count_by, Some}
 use Rattle.std.specs.FinSet as set
 use Rattle.peano_keys.specs.declared.dim.Dim.{Dim}
-use Rattle.peano_keys.specs.Grid.{Spacetree}
 use Rattle.peano_records.specs.declared.view.Corner.{Corner}
 use Rattle.peano_records.specs.declared.view.Corner.TheVariants.{Vertex, Hanging, Beyond}
 use Rattle.peano_records.specs.declared.view.CellView.{CellView}
-use Rattle.hanging_nodes.specs.Views.{Shows}
 use Rattle.vertex_stacks.specs.Tales.{capped}
 use Rattle.curve_cuts.specs.Keys.{CutPoints, cuts_of}
-use Rattle.curve_cuts.specs.Enclave.{OwnsLeaf, IsEnclave, IsSkeleton}
 use Rattle.spacetree.specs.declared.row.Row.{Row}
 use Rattle.tree_automaton.specs.declared.kinds.Serves.TheVariants.{Plain}
 use Rattle.tree_automaton.specs.Promises.{Meaning}
 use Rattle.tree_automaton.specs.Views.{value_at_home}
+use Rattle.step_sweeps.specs.Enclaves.{DecidesEnclave}
 use Rattle.step_sweeps.specs.Kernels.{IsOwnLeaf}
 use Rattle.showing_sweep.specs.declared.counts.CellCounts.{CellCounts}
 
@@ -55,11 +53,6 @@ abbrev pub with_leaf : Bool → CellCounts → CellCounts
 with_leaf true n = record n { enclave = capped (n.enclave + 1) }
 with_leaf false n = record n { skeleton = capped (n.skeleton + 1) }
 
--- whether a leaf of the tree is an enclave, as its view decides
-pub record DecidesEnclave (keys : CutPoints) (t : ℕ) (v : CellView) (b : Bool) : Type 0 where
-  pub enclave : (g : Spacetree) → g.dim ≡ keys.dim → Shows keys.dim (Some g) g false v → OwnsLeaf (cuts_of keys) g t v.key → IsTrue b ↔ IsEnclave (cuts_of keys) g t v.key
-  pub skeleton : (g : Spacetree) → g.dim ≡ keys.dim → Shows keys.dim (Some g) g false v → OwnsLeaf (cuts_of keys) g t v.key → IsFalse b ↔ IsSkeleton (cuts_of keys) g t v.key
-
 -- a leaf of the tree gives a row
 pub record LeafGathered (a : ShowWork) (v : CellView) (b : ShowWork) : Type 0 where
   pub own : IsOwnLeaf (cuts_of a.keys) a.tree v
@@ -74,7 +67,7 @@ pub record NoneGathered (a : ShowWork) (v : CellView) (b : ShowWork) : Type 0 wh
 pub record LeafCounted (a : ShowWork) (v : CellView) (b : ShowWork) : Type 0 where
   pub own : IsOwnLeaf (cuts_of a.keys) a.tree v
   pub enclave : Bool
-  pub decides : DecidesEnclave a.keys a.tree v enclave
+  pub decides : DecidesEnclave (cuts_of a.keys) a.tree v enclave
   pub counted : b ≡ record a { counts = with_leaf enclave (with_cell v a.counts) }
 
 -- any other cell is counted alone

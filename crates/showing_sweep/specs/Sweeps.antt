@@ -7,9 +7,10 @@ use Rattle.curve_cuts.specs.Cuts.{Cuts, range_of}
 use Rattle.vertex_stacks.specs.declared.kind.Kind.TheVariants as kind
 use Rattle.vertex_stacks.specs.Notes.{Note}
 use Rattle.sweep_visits.specs.Runs.{turned_round}
+use Rattle.tree_automaton.specs.Noted.{IsNoted}
 use Rattle.tree_automaton.specs.TreeLists.{TreeLists}
 use Rattle.tree_automaton.specs.AtRest.{plain_plan}
-use Rattle.step_sweeps.specs.Sweeps.{CanStep, IsNoted, StandsOn}
+use Rattle.step_sweeps.specs.Sweeps.{CanStep, StandsOn}
 use Rattle.showing_sweep.specs.declared.shown.Shown.{Shown}
 use Rattle.showing_sweep.specs.Counts.{ListsAll}
 use Rattle.showing_sweep.specs.Shown.{IsRowOf, IsTraffic}
@@ -31,5 +32,5 @@ pub record IsShownTree (k : Cuts) (parts : ℕ) (dir : Direction) (g : Spacetree
   pub stands : StandsOn k parts (turned_round dir) g f t
   pub rows : ListsAll (IsRowOf k g f s.tree) shown.rows.items
   pub traffic : IsTraffic k g s.tree shown.traffic
-  pub noted : IsNoted (plain_plan k.depth (range_of k s.tree) dir g) step kind.Show s.tree s.lanes.tale t.lanes.tale note
+  pub noted : IsNoted (plain_plan k.depth (range_of k s.tree) dir g) kind.Show step s.tree s.lanes.tale t.lanes.tale note
   pub moved : NoteTells note shown.traffic.stored shown.traffic.pushes

@@ -34,7 +34,9 @@ pub fn show_tree(
     step: u32,
 ) -> Result<(SweepNote, Shown), AllocError>
     requires { CanShow (cuts_of keys.now) store.old }
-    ensures shown { IfOk result (λ r. (parts : ℕ) (dir : Direction) (g : Spacetree) (f : States) → StandsOn (cuts_of keys.now) parts dir g f store.old → IsShownTree (cuts_of keys.now) parts dir g f step store.old store.new r.0 r.1) }
+    ensures shown { IfOk result (λ r. (parts : ℕ) (dir : Direction) (g : Spacetree) (f : States)
+        → StandsOn (cuts_of keys.now) parts dir g f store.old
+        → IsShownTree (cuts_of keys.now) parts dir g f step store.old store.new r.0 r.1) }
     ensures refused { OnErr result (store.new.live ≡ false) }
     ensures roomy { IfOk result (λ _. store.old.stored < 2 ^ 64 - 1 → IsRoomy store.new) }
 {

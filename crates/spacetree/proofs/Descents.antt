@@ -1,10 +1,8 @@
 -- Zones handed down, and cells below a cell.
 use Rattle.std.proofs.Common.{◌<◌, ◌≤◌, arith, ◌≡◌, ℕ, zero, suc, List, [], ◌∷◌, Bool, true, false, cond, refl, ap, sym, ◌∙◌, subst, ◌⊎◌, inl, inr, length, get_or, filter, Any, All}
 use Rattle.std.specs.FinSet as set
-use Rattle.std.specs.Bool.{Decides}
 use Rattle.std.proofs.lemmas.List.Elements.{filter_passes}
 use Rattle.std.proofs.lemmas.Bool.{false≢true}
-use Rattle.std.proofs.lemmas.Bool.Decides.{Decides-and, Decides-ltb, Decides-like}
 use Rattle.peano_keys.specs.declared.dim.Dim.{Dim}
 use Rattle.peano_keys.specs.declared.dim.Dim.TheVariants.{Two, Three}
 use Rattle.peano_keys.specs.declared.cell.CellKey.{CellKey}
@@ -12,22 +10,11 @@ use Rattle.peano_keys.specs.Cell.{IsCell, parent_of, root}
 use Rattle.peano_keys.specs.Grid.{Cells}
 use Rattle.spacetree.specs.declared.shape.Shape.{Shape}
 use Rattle.spacetree.specs.declared.shape.Zone.{Zone}
-use Rattle.spacetree.specs.Opening.{OpensRefined, ZoneRefines, Meets, Overlaps}
-use Rattle.spacetree.specs.Build.{IsZone, IsUnder, HasOpenedUnder, StandsFor, ancestor_of, overlaps, meets, zone_refines}
+use Rattle.spacetree.specs.Opening.{OpensRefined, ZoneRefines, zone_refines}
+use Rattle.spacetree.specs.Build.{IsZone, IsUnder, HasOpenedUnder, StandsFor, ancestor_of}
 use Rattle.spacetree.proofs.Children.{root_is}
 use Rattle.spacetree.proofs.Children.{parent_cell}
 use Rattle.spacetree.proofs.Openings.{ancestor_level, ancestor_opens, ancestor_zone, any_weaker}
-
-decides_overlaps : (l x k from to : ℕ) → Decides (overlaps l x k from to) (Overlaps l x k from to)
-decides_overlaps l x k from to = Decides-ltb _ _
-
-decides_meets : (dim : Dim) (z : Zone) (c : CellKey) → Decides (meets dim z c) (Meets dim z c)
-decides_meets Two z c = Decides-and _ _ (decides_overlaps _ _ _ _ _) (decides_overlaps _ _ _ _ _)
-decides_meets Three z c = Decides-like _ (λ h. (h.0.0, h.0.1, h.1)) (λ h. ((h.0, h.1), h.2)) (Decides-and _ _ (Decides-and _ _ (decides_overlaps _ _ _ _ _) (decides_overlaps _ _ _ _ _)) (decides_overlaps _ _ _ _ _))
-
--- the test says whether a zone refines a cell
-pub decides_zone : (dim : Dim) (c : CellKey) (z : Zone) → Decides (zone_refines dim c z) (ZoneRefines dim c z)
-decides_zone dim c z = Decides-and _ _ (Decides-ltb _ _) (decides_meets dim z c)
 
 module _ {X : Type 0} (P : X → Type 0) where
   pub any_cons : (x : X) (xs : List X) → P x ⊎ Any P xs → Any P (x ∷ xs)
@@ -96,7 +83,7 @@ some_zone shape top zones here stands is pos =
     let test : Zone → Bool = zone_refines shape.dim top in
     let many : 0 < length (filter test zones) = omega (arith, ap length is) in
     let kept : Any (λ z. test z ≡ true) (filter test zones) = some_of (λ z. test z ≡ true) (filter test zones) many (filter_passes test zones) in
-    stands.within top (any_weaker zones (λ z. (decides_zone shape.dim top z).0) (any_of_filter (λ z. test z ≡ true) test zones kept))
+    stands.within top (any_of_filter (λ z. test z ≡ true) test zones kept)
 
 -- where no zone refines a cell of a level from the base on, no cell below it is refined
 pub none_under : (shape : Shape) (top : CellKey) (zones here : List Zone) → StandsFor shape top zones → here ≡ filter (zone_refines shape.dim top) zones → length here ≡ 0 → shape.base ≤ top.level → (c : CellKey) → OpensRefined shape c → IsUnder top c → ⊥
@@ -105,7 +92,7 @@ none_under shape top zones here stands is none high c h (n, le, e) =
     elim opened.cause [
       | inl l ↦ absurd (omega arith)
       | inr some ↦
-          let kept = any_in_filter (ZoneRefines shape.dim top) (zone_refines shape.dim top) (λ z. (decides_zone shape.dim top z).1) zones (stands.all top (under_itself top) some) in
+          let kept = any_in_filter (ZoneRefines shape.dim top) (zone_refines shape.dim top) (λ z h. h) zones (stands.all top (under_itself top) some) in
           absurd (omega (arith, kept.2, ap length is))
     ]
 
@@ -116,7 +103,7 @@ stands_for_child shape top r zones here stands is pos up = subst (StandsFor shap
   within = λ c some. stands.within c (any_of_filter (ZoneRefines shape.dim c) (zone_refines shape.dim top) zones some);
   all = λ c under some.
       let below : IsUnder top c = under_parent c r top pos up under in
-      any_in_filter (ZoneRefines shape.dim c) (zone_refines shape.dim top) (λ z refines. (decides_zone shape.dim top z).1 (subst (λ (q : CellKey). ZoneRefines shape.dim q z) below.2 (ancestor_zone shape.dim below.0 c z below.1 refines))) zones (stands.all c below some);
+      any_in_filter (ZoneRefines shape.dim c) (zone_refines shape.dim top) (λ z refines. subst (λ (q : CellKey). ZoneRefines shape.dim q z) below.2 (ancestor_zone shape.dim below.0 c z below.1 refines)) zones (stands.all c below some);
 }
 
 -- a set that has a cell and all that is refined below its children has all that is refined below it

@@ -6,6 +6,7 @@ pub mod Givens
 pub mod Leaves
 pub mod Values
 pub mod Steps
+pub mod Zones
 pub mod Openings
 pub mod Descents
 pub mod CellCounts

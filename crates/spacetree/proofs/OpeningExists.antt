@@ -6,21 +6,16 @@ use Rattle.peano_keys.specs.Cell.{IsCell, parent_of}
 use Rattle.solver_api.specs.Step.{IsLeafOf}
 use Rattle.spacetree.specs.declared.shape.Shape.{Shape}
 use Rattle.spacetree.specs.declared.shape.Zone.{Zone}
-use Rattle.spacetree.specs.Build.{zone_refines}
-use Rattle.spacetree.specs.Opening.{OpensRefined, ZoneRefines, opening_state}
+use Rattle.spacetree.specs.Opening.{OpensRefined, ZoneRefines, zone_refines, opening_state}
 use Rattle.spacetree.specs.Laws.{EachShapeOpens, OpeningIsGrid, FillsOpen}
 use Rattle.spacetree.proofs.Collected.{collect, tabulate}
-use Rattle.spacetree.proofs.Descents.{decides_zone}
 use Rattle.spacetree.proofs.Leaves.{leaf_there}
 use Rattle.spacetree.proofs.AllCells.{all_cells, listed, cells_to, listed_to}
 use Rattle.spacetree.proofs.Openings.{opens_above, parent_opens}
 use Rattle.spacetree.proofs.Told.{Told, below, cell_told, true_told, leaf_told, either_told, any_told}
 
 zone_told : (dim : Dim) (c : CellKey) (z : Zone) → Told (ZoneRefines dim c z)
-zone_told dim c z = elim (true_told (zone_refines dim c z)) [
-  | inl h ↦ inl ((decides_zone dim c z).0 h)
-  | inr apart ↦ inr (λ h. apart ((decides_zone dim c z).1 h))
-]
+zone_told dim c z = true_told (zone_refines dim c z)
 
 opens_told : (shape : Shape) (c : CellKey) → Told (OpensRefined shape c)
 opens_told shape c = elim (cell_told shape.dim c) [

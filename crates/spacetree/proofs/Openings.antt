@@ -10,9 +10,10 @@ use Rattle.spacetree.proofs.Children.{extent_above, parent_cell}
 use Rattle.peano_keys.specs.Grid.{Cells, Spacetree, IsGrid}
 use Rattle.spacetree.specs.declared.shape.Shape.{Shape}
 use Rattle.spacetree.specs.declared.shape.Zone.{Zone}
-use Rattle.spacetree.specs.Opening.{Opens, OpensRefined, ZoneRefines, Meets, Overlaps}
+use Rattle.spacetree.specs.Opening.{Opens, OpensRefined, ZoneRefines}
 use Rattle.spacetree.specs.Build.{IsZone, IsShape, HasOpened, HasAllOpened, ancestor_of}
 use Rattle.spacetree.proofs.CellSets.{inserted_cases}
+use Rattle.spacetree.proofs.Zones.{Meets, Overlaps, decides_zone}
 
 -- where a cell meets an interval, its parent does: `end` is the cells above on the axis, `unit` those of the interval's level
 wider : (end unit x from to : ℕ) → max (x * unit) (from * (3 * end)) < min ((x + 1) * unit) (to * (3 * end)) → max (x / 3 * unit) (from * end) < min ((x / 3 + 1) * unit) (to * end)
@@ -34,7 +35,9 @@ parent_meets Three z c pos h = (parent_overlaps _ _ _ _ _ pos h.0, parent_overla
 
 -- a zone that refines a cell refines its parent
 pub parent_zone : (dim : Dim) (c : CellKey) (z : Zone) → 0 < c.level → ZoneRefines dim c z → ZoneRefines dim (parent_of c) z
-parent_zone dim c z pos h = (omega (arith, h.0), parent_meets dim z c pos h.1)
+parent_zone dim c z pos h =
+    let parts = (decides_zone dim c z).0 h in
+    (decides_zone dim (parent_of c) z).1 (omega (arith, parts.0), parent_meets dim z c pos parts.1)
 
 pub any_weaker : {P Q : Zone → Type 0} (zones : List Zone) → ((z : Zone) → P z → Q z) → Any P zones → Any Q zones
 any_weaker zones f h = (h.0, h.1, h.2, h.3, f h.1 h.4)
@@ -70,7 +73,7 @@ opens_above shape c is h = elim h.cause [
   | inl l ↦ omega (arith, l, is.base)
   | inr some ↦
       let z : IsZone shape.dim shape.depth some.1 = subst (IsZone shape.dim shape.depth) some.3 (is.zones some.0 some.1 some.2) in
-      omega (arith, some.4.0, z.most)
+      omega (arith, ((decides_zone shape.dim c some.1).0 some.4).0, z.most)
 ]
 
 -- a set stays within the refined cells by one of them

@@ -6,6 +6,7 @@ use Rattle.peano_keys.specs.declared.dim.Dim.TheVariants.{Two, Three}
 use Rattle.peano_keys.specs.declared.cell.CellKey.{CellKey}
 use Rattle.peano_keys.specs.Cell.{at, parent_of}
 use Rattle.peano_keys.specs.Grid.{Cells, Spacetree}
+use Rattle.spacetree.specs.declared.limits.TheConstants.{MOST_CELLS}
 use Rattle.spacetree.specs.declared.fault.BuildFault.{BuildFault}
 use Rattle.spacetree.specs.declared.fault.BuildFault.TheVariants.{TooMany, NoMemory}
 use Rattle.spacetree.specs.declared.shape.Shape.{Shape}
@@ -48,13 +49,13 @@ HasAllOpened shape s = (c : CellKey) → OpensRefined shape c → set.contains s
 
 -- no grid of at most 200,000 cells is the opening grid
 abbrev pub HasNoSmallGrid : Shape → Type 0
-HasNoSmallGrid shape = (t : Spacetree) → Opens shape t → 200000 < cells_of t
+HasNoSmallGrid shape = (t : Spacetree) → Opens shape t → MOST_CELLS < cells_of t
 
 -- the opening grid has more than 200,000 cells: so many come of some of its refined cells already
 pub record IsTooLarge (shape : Shape) : Type 0 where
   pub refined : Cells
   pub opened : HasOpened shape refined
-  pub many : 200000 < cells_for shape.dim (set.len refined)
+  pub many : MOST_CELLS < cells_for shape.dim (set.len refined)
   pub grids : HasNoSmallGrid shape
 
 -- why a grid is not built: it would have more than 200,000 cells, or memory was wanting
@@ -74,19 +75,6 @@ IsUnder top c = (levels : ℕ) × (levels ≤ c.level) × (ancestor_of levels c 
 -- a set has each cell that is refined in the opening grid and is a given one or lies below it
 abbrev pub HasOpenedUnder : Shape → CellKey → Cells → Type 0
 HasOpenedUnder shape top s = (c : CellKey) → OpensRefined shape c → IsUnder top c → set.contains s c ≡ true
-
--- the test whether the inside of a cell meets an interval of cells of another level, on one axis
-abbrev pub overlaps : ℕ → ℕ → ℕ → ℕ → ℕ → Bool
-overlaps l x k from to = nat_lt (max (x * 3 ^ k) (from * 3 ^ l)) (min ((x + 1) * 3 ^ k) (to * 3 ^ l))
-
--- and whether it meets the box of a zone
-abbrev pub meets : Dim → Zone → CellKey → Bool
-meets Two z c = overlaps c.level (at c 0) z.level (slice_index z.from 0) (slice_index z.to 0) && overlaps c.level (at c 1) z.level (slice_index z.from 1) (slice_index z.to 1)
-meets Three z c = overlaps c.level (at c 0) z.level (slice_index z.from 0) (slice_index z.to 0) && overlaps c.level (at c 1) z.level (slice_index z.from 1) (slice_index z.to 1) && overlaps c.level (at c 2) z.level (slice_index z.from 2) (slice_index z.to 2)
-
--- the test whether a zone refines a cell
-abbrev pub zone_refines : Dim → CellKey → Zone → Bool
-zone_refines dim c z = nat_lt c.level z.until && meets dim z c
 
 -- some zones stand for all of a shape below a cell: they refine no other cell than these, and below the cell the same
 pub record StandsFor (shape : Shape) (top : CellKey) (zones : List Zone) : Type 0 where

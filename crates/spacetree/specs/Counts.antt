@@ -5,6 +5,7 @@ use Rattle.peano_keys.specs.declared.dim.Dim.{Dim}
 use Rattle.peano_keys.specs.declared.cell.CellKey.{CellKey}
 use Rattle.peano_keys.specs.Dim.{axes}
 use Rattle.peano_keys.specs.Grid.{Spacetree, IsGrid}
+use Rattle.spacetree.specs.declared.limits.TheConstants.{MOST_CELLS}
 use Rattle.spacetree.specs.Leaves.{is_among}
 
 -- the root, and the children of each of so many refined cells
@@ -18,7 +19,7 @@ cells_of t = cells_for t.dim (set.len t.refined)
 -- what a grid of the engine is: a grid of depth at most 12, with at most 200,000 cells
 pub record IsServedGrid (t : Spacetree) : Type 0 where
   pub grid : IsGrid 12 t
-  pub room : cells_of t ≤ 200000
+  pub room : cells_of t ≤ MOST_CELLS
 
 -- the number of leaves of a grid: of its cells, those that are not refined
 abbrev pub leaves_of : Spacetree → ℕ

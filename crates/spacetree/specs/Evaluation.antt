@@ -6,6 +6,7 @@ use Rattle.peano_keys.specs.Field.{States}
 use Rattle.peano_keys.specs.declared.side.Mark.{Mark}
 use Rattle.peano_keys.specs.Next.{IsNextGrid}
 use Rattle.solver_api.specs.Step.{UpdateRule, MarkRule, IsLeafOf, IsStep, Overflows, marks_of, new_state}
+use Rattle.spacetree.specs.declared.limits.TheConstants.{MOST_CELLS}
 use Rattle.spacetree.specs.declared.fault.EvalFault.{EvalFault}
 use Rattle.spacetree.specs.declared.fault.EvalFault.TheVariants.{Overflow, Crowded, NoMemory}
 use Rattle.spacetree.specs.Counts.{cells_of}
@@ -13,12 +14,12 @@ use Rattle.spacetree.specs.Counts.{cells_of}
 -- a step that is not refused: the grid that it leads to has at most 200,000 cells
 pub record IsServedStep (updated : UpdateRule) (marked : MarkRule) (old : Spacetree) (before : States) (new : Spacetree) (after : States) : Type 0 where
   pub step : IsStep updated marked old before new after
-  pub room : cells_of new ≤ 200000
+  pub room : cells_of new ≤ MOST_CELLS
 
 -- the next grid by some marks has so many cells, which are more than 200,000
 pub record IsCrowded (old : Spacetree) (marks : CellKey → Mark) (cells : ℕ) : Type 0 where
   pub next : (new : Spacetree) × IsNextGrid old marks new × (cells_of new ≡ cells)
-  pub crowded : 200000 < cells
+  pub crowded : MOST_CELLS < cells
 
 -- a step is refused because the next grid has so many cells: no leaf of the old one overflows
 pub record Crowds (updated : UpdateRule) (marked : MarkRule) (t : Spacetree) (f : States) (cells : ℕ) : Type 0 where

@@ -17,11 +17,15 @@ row_of e = record { key = e.0; value = e.1 }
 abbrev pub rows_of : States → List Row
 rows_of f = map row_of (fin.entries f)
 
+-- a cell is a key of a field exactly where it is a leaf of a grid
+abbrev pub HasLeaf : Spacetree → States → CellKey → Type 0
+HasLeaf t f c = IsSome (fin.get f c) ↔ IsLeafOf t c
+
 -- the keys of a field are the leaves of a grid
 abbrev pub HasLeaves : Spacetree → States → Type 0
-HasLeaves t f = (c : CellKey) → IsSome (fin.get f c) ↔ IsLeafOf t c
+HasLeaves t f = (c : CellKey) → HasLeaf t f c
 
 -- a field on a grid: its keys are the leaves, and its states have so many values
 pub record IsFieldOn (parts : ℕ) (t : Spacetree) (f : States) : Type 0 where
-  pub leaves : (c : CellKey) → IsSome (fin.get f c) ↔ IsLeafOf t c
+  pub leaves : (c : CellKey) → HasLeaf t f c
   pub counts : (c : CellKey) → IfSome (fin.get f c) (λ s. count_of s ≡ parts)

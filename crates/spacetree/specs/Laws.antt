@@ -53,6 +53,7 @@ IsServed updated marked t f = (new : Spacetree) × (after : States) × IsServedS
 abbrev pub IsOver : UpdateRule → Spacetree → States → Type 0
 IsOver updated t f = (c : CellKey) × Overflows updated t f c
 
+-- the next grid would have so many cells, too many
 abbrev pub IsOverfull : UpdateRule → MarkRule → Spacetree → States → Type 0
 IsOverfull updated marked t f = (cells : ℕ) × Crowds updated marked t f cells
 
@@ -98,6 +99,10 @@ pub record IsTheLeafAbove (t : Spacetree) (q c : CellKey) : Type 0 where
 abbrev pub CoarseSideIsOfLeaf : Type 0
 CoarseSideIsOfLeaf = (t : Spacetree) (f : States) (q : CellKey) → IsGrid 12 t → IsCell t.dim q → has_cell t q ≡ false → (c : CellKey) × IsTheLeafAbove t q c × (side_at t f (Some q) ≡ Coarse (state_at f c))
 
--- a cell that merges has in the next field its value in the field of the new states: the value of any refined cell, which sides tell too
+-- each cell that merges has in a field its value by some states: the value of any refined cell, which sides tell too
+abbrev pub MergedHave : Spacetree → (CellKey → Mark) → States → States → Type 0
+MergedHave t marks states after = (c : CellKey) → Merges t marks c → map.get after c ≡ Some (value_of t states c)
+
+-- so it is in the next field, by the field of the new states
 abbrev pub MergeTakesValue : Type 0
-MergeTakesValue = (updated : UpdateRule) (marked : MarkRule) (t : Spacetree) (f : States) (new : Spacetree) (after states : States) → IsGrid 12 t → HasNewStates updated t f states → IsStep updated marked t f new after → (c : CellKey) → Merges t (marks_of marked t f) c → map.get after c ≡ Some (value_of t states c)
+MergeTakesValue = (updated : UpdateRule) (marked : MarkRule) (t : Spacetree) (f : States) (new : Spacetree) (after states : States) → IsGrid 12 t → HasNewStates updated t f states → IsStep updated marked t f new after → MergedHave t (marks_of marked t f) states after

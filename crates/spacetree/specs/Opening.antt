@@ -15,18 +15,26 @@ use Rattle.spacetree.specs.declared.shape.Shape.{Shape}
 use Rattle.spacetree.specs.declared.shape.Zone.{Zone}
 use Rattle.spacetree.specs.declared.shape.Fill.{Fill}
 
--- the inside of a cell of level `l` at `x` meets, on one axis, the interval of cells `from` to `to` of level `k`
-abbrev pub Overlaps : ℕ → ℕ → ℕ → ℕ → ℕ → Type 0
-Overlaps l x k from to = max (x * 3 ^ k) (from * 3 ^ l) < min ((x + 1) * 3 ^ k) (to * 3 ^ l)
+-- whether the inside of a cell of level `l` at `x` meets, on one axis, the interval of cells `from` to `to` of level `k`
+abbrev pub overlaps : ℕ → ℕ → ℕ → ℕ → ℕ → Bool
+overlaps l x k from to = nat_lt (max (x * 3 ^ k) (from * 3 ^ l)) (min ((x + 1) * 3 ^ k) (to * 3 ^ l))
 
--- the inside of a cell meets the box of a zone: on each axis in use
-abbrev pub Meets : Dim → Zone → CellKey → Type 0
-Meets Two z c = Overlaps c.level (at c 0) z.level (slice_index z.from 0) (slice_index z.to 0) × Overlaps c.level (at c 1) z.level (slice_index z.from 1) (slice_index z.to 1)
-Meets Three z c = Overlaps c.level (at c 0) z.level (slice_index z.from 0) (slice_index z.to 0) × Overlaps c.level (at c 1) z.level (slice_index z.from 1) (slice_index z.to 1) × Overlaps c.level (at c 2) z.level (slice_index z.from 2) (slice_index z.to 2)
+-- so on axis `i` of a cell and a zone
+abbrev pub overlaps_on : ℕ → Zone → CellKey → Bool
+overlaps_on i z c = overlaps c.level (at c i) z.level (slice_index z.from i) (slice_index z.to i)
 
--- a zone refines the cells of a level below its own last one whose inside meets its box
+-- whether the inside of a cell meets the box of a zone: on each axis in use
+abbrev pub meets : Dim → Zone → CellKey → Bool
+meets Two z c = overlaps_on 0 z c && overlaps_on 1 z c
+meets Three z c = overlaps_on 0 z c && overlaps_on 1 z c && overlaps_on 2 z c
+
+-- whether a zone refines a cell: one of a level below its own last one whose inside meets its box
+abbrev pub zone_refines : Dim → CellKey → Zone → Bool
+zone_refines dim c z = nat_lt c.level z.until && meets dim z c
+
+-- a zone refines a cell
 abbrev pub ZoneRefines : Dim → CellKey → Zone → Type 0
-ZoneRefines dim c z = (c.level < z.until) × Meets dim z c
+ZoneRefines dim c z = zone_refines dim c z ≡ true
 
 -- a cell is refined in the opening grid: its level is below the base, or a zone refines it
 pub record OpensRefined (shape : Shape) (c : CellKey) : Type 0 where

@@ -4,15 +4,15 @@ ghost use Rattle.std.specs.FinSet as set;
 ghost use Rattle.peano_keys.specs.Cell.{IsCell};
 ghost use Rattle.spacetree.specs.Counts.{cells_for};
 ghost use Rattle.spacetree.specs.Digits.{IsKept};
-ghost use Rattle.spacetree.specs.Opening.{OpensRefined};
-ghost use Rattle.spacetree.specs.Build.{IsZone, IsShape, HasOpened, HasAllOpened, HasOpenedUnder, StandsFor, BuildFails, overlaps, zone_refines};
+ghost use Rattle.spacetree.specs.Opening.{OpensRefined, overlaps, zone_refines};
+ghost use Rattle.spacetree.specs.Build.{IsZone, IsShape, HasOpened, HasAllOpened, HasOpenedUnder, StandsFor, BuildFails};
 
 use crate::cells::CellSet;
-use crate::counts::MOST_CELLS;
-use crate::digits::{fan, nth_digits};
+use crate::digits::nth_digits;
 use crate::fault::BuildFault;
+use crate::limits::MOST_CELLS;
 use crate::shape::{Shape, Zone};
-use peano_keys::{CellKey, Dim, child, pow3};
+use peano_keys::{CellKey, Dim, child, child_count, pow3, root};
 use std::alloc::{AllocError, Global};
 
 // Whether the inside of a cell meets an interval of cells of another level, on one axis.
@@ -80,11 +80,11 @@ fn add(cells: &mut CellSet, shape: &Shape, key: CellKey) -> Result<(), BuildFaul
     ensures within { OnOk result (HasOpened shape.now cells.new) }
     ensures kept { OnOk result (IsKept cells.old cells.new) }
     ensures added { OnOk result (set.contains cells.new key ≡ true) }
-    ensures fits { OnOk result (cells_for shape.now.dim (set.len cells.new) ≤ 200000) }
+    ensures fits { OnOk result (cells_for shape.now.dim (set.len cells.new) ≤ MOST_CELLS) }
     ensures fault { IfErr result (BuildFails shape.now) }
 {
     cells.insert(key)?;
-    if cells.len() > (MOST_CELLS - 1) / u64::from(fan(shape.dim)) {
+    if cells.len() > (MOST_CELLS - 1) / u64::from(child_count(shape.dim)) {
         return Err(BuildFault::TooMany);
     }
     Ok(())
@@ -102,11 +102,11 @@ fn add_under(
     requires cell { IsCell shape.now.dim key }
     requires zones { StandsFor shape.now key zones.now }
     requires within { HasOpened shape.now cells.old }
-    requires fits { cells_for shape.now.dim (set.len cells.old) ≤ 200000 }
+    requires fits { cells_for shape.now.dim (set.len cells.old) ≤ MOST_CELLS }
     ensures within { OnOk result (HasOpened shape.now cells.new) }
     ensures kept { OnOk result (IsKept cells.old cells.new) }
     ensures under { OnOk result (HasOpenedUnder shape.now key cells.new) }
-    ensures fits { OnOk result (cells_for shape.now.dim (set.len cells.new) ≤ 200000) }
+    ensures fits { OnOk result (cells_for shape.now.dim (set.len cells.new) ≤ MOST_CELLS) }
     ensures fault { IfErr result (BuildFails shape.now) }
 {
     let here = refining(alloc, shape.dim, shape.depth, zones, &key)?;
@@ -114,7 +114,7 @@ fn add_under(
         return Ok(());
     }
     add(cells, shape, key)?;
-    for n in 0..fan(shape.dim) {
+    for n in 0..child_count(shape.dim) {
         add_under(
             alloc,
             cells,
@@ -131,14 +131,10 @@ pub(crate) fn refined_cells(alloc: Global, shape: &Shape) -> Result<CellSet, Bui
     requires { IsShape shape.now }
     ensures within { IfOk result (HasOpened shape.now) }
     ensures all { IfOk result (HasAllOpened shape.now) }
-    ensures fits { IfOk result (λ cells. cells_for shape.now.dim (set.len cells) ≤ 200000) }
+    ensures fits { IfOk result (λ cells. cells_for shape.now.dim (set.len cells) ≤ MOST_CELLS) }
     ensures fault { IfErr result (BuildFails shape.now) }
 {
     let mut cells = CellSet::new(alloc);
-    let root = CellKey {
-        level: 0,
-        x: [0, 0, 0],
-    };
-    add_under(alloc, &mut cells, shape, shape.zones.as_slice(), root)?;
+    add_under(alloc, &mut cells, shape, shape.zones.as_slice(), root())?;
     Ok(cells)
 }

@@ -6,16 +6,6 @@ ghost use Rattle.spacetree.specs.Digits.{digits_at};
 
 use peano_keys::Dim;
 
-// How many children a cell has.
-pub(crate) fn fan(dim: Dim) -> u32
-    ensures { result ≡ 3 ^ axes dim }
-{
-    match dim {
-        Dim::Two => 9,
-        Dim::Three => 27,
-    }
-}
-
 // The digits of child number `n`, axis 0 slowest.
 pub(crate) fn nth_digits(dim: Dim, n: u32) -> [u32; 3]
     requires { n < 3 ^ axes dim }

@@ -13,10 +13,11 @@ ghost use Rattle.spacetree.specs.Opening.{Opens};
 use crate::build::refined_cells;
 use crate::cells::CellSet;
 use crate::counts::cells_with;
-use crate::digits::{fan, nth_digits};
+use crate::digits::nth_digits;
 use crate::fault::BuildFault;
+use crate::limits::MOST_CELLS;
 use crate::shape::Shape;
-use peano_keys::{CellKey, Dim, child, is_cell, parent};
+use peano_keys::{CellKey, Dim, child, child_count, is_cell, parent, root};
 use std::alloc::{AllocError, Global};
 use std::marker::Model;
 
@@ -48,7 +49,7 @@ impl Grid {
         ensures opening { IfOk result (λ grid. Opens shape.now grid) }
         ensures grid { IfOk result (λ grid. IsGrid shape.now.depth grid) }
         ensures served { IfOk result (λ grid. IsGrid 12 grid) }
-        ensures small { IfOk result (λ grid. cells_of grid ≤ 200000) }
+        ensures small { IfOk result (λ grid. cells_of grid ≤ MOST_CELLS) }
         ensures fault { IfErr result (BuildFails shape.now) }
     {
         let refined = refined_cells(alloc, shape)?;
@@ -97,7 +98,7 @@ impl Grid {
     /// How many cells there are: the root, and nine or 27 children of each refined one.
     pub fn cell_count(&self) -> u64
         ensures value { result ≡ cells_of self.now }
-        ensures limit { result ≤ 200000 }
+        ensures limit { result ≤ MOST_CELLS }
     {
         cells_with(self.dim, &self.refined)
     }
@@ -122,11 +123,7 @@ impl Grid {
         ensures served { OnOk result (IsServedGrid self.now) }
     {
         let mut found = CellSet::new(alloc);
-        let root = CellKey {
-            level: 0,
-            x: [0, 0, 0],
-        };
-        self.add_leaf(&mut found, root)?;
+        self.add_leaf(&mut found, root())?;
         let parents = self.refined_cells(alloc)?;
         for parent in parents.as_slice() {
             self.add_leaves(&mut found, *parent)?;
@@ -153,7 +150,7 @@ impl Grid {
         ensures children { OnOk result (HasLeavesUnder self.now found.new parent) }
     {
         let dim = self.dim();
-        for n in 0..fan(dim) {
+        for n in 0..child_count(dim) {
             self.add_leaf(found, child(parent, nth_digits(dim, n)))?;
         }
         Ok(())
@@ -186,7 +183,7 @@ impl Grid {
     // The grid again.
     pub(crate) fn copied(&self) -> Result<Grid, AllocError>
         ensures grid { IfOk result (λ grid. grid ≡ self.now) }
-        ensures room { IfOk result (λ grid. cells_of grid ≤ 200000) }
+        ensures room { IfOk result (λ grid. cells_of grid ≤ MOST_CELLS) }
     {
         Ok(Grid {
             dim: self.dim,

@@ -10,12 +10,13 @@ ghost use Rattle.spacetree.specs.Counts.{cells_of};
 ghost use Rattle.spacetree.specs.Marked.{AreMarked, AreServedMarks, HasChildren, IsAddedWhere, NextFails};
 
 use crate::cells::CellSet;
-use crate::counts::{MOST_CELLS, cells_with};
-use crate::digits::{fan, nth_digits};
+use crate::counts::cells_with;
+use crate::digits::nth_digits;
 use crate::fault::EvalFault;
 use crate::grid::Grid;
+use crate::limits::MOST_CELLS;
 use crate::update::Update;
-use peano_keys::{CellKey, Dim, child};
+use peano_keys::{CellKey, Dim, child, child_count};
 use std::alloc::{AllocError, Global};
 
 // Whether a set has all children of a cell.
@@ -24,7 +25,7 @@ fn has_children(dim: Dim, cells: &CellSet, key: CellKey) -> bool
     requires room { key.level < 12 }
     ensures { IsTrue result ↔ HasChildren dim cells.now key }
 {
-    for n in 0..fan(dim) {
+    for n in 0..child_count(dim) {
         if !cells.contains(&child(key, nth_digits(dim, n))) {
             return false;
         }
@@ -72,11 +73,11 @@ pub(crate) fn next_grid(
     step: u32,
 ) -> Result<Grid, EvalFault>
     requires grid { IsGrid 12 grid.now }
-    requires room { cells_of grid.now ≤ 200000 }
+    requires room { cells_of grid.now ≤ MOST_CELLS }
     requires count { set.len update.now.refine ≤ 2 ^ 59 }
     requires marks { AreServedMarks grid.now update.now.refine update.now.coarsen }
     ensures ok { IfOk result (λ next. (marks : CellKey → Mark) → AreMarked grid.now marks update.now.refine update.now.coarsen → IsNextGrid grid.now marks next) }
-    ensures room { IfOk result (λ next. cells_of next ≤ 200000) }
+    ensures room { IfOk result (λ next. cells_of next ≤ MOST_CELLS) }
     ensures err { IfErr result (λ fault. (marks : CellKey → Mark) → AreMarked grid.now marks update.now.refine update.now.coarsen → NextFails grid.now marks step fault) }
 {
     let refined = next_refined(alloc, grid, &update.refine, &update.coarsen)?;

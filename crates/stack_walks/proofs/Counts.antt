@@ -10,7 +10,7 @@ use Rattle.stack_law.specs.Order.{IsRightCell, IsRightVisit}
 use Rattle.stack_law.specs.Passings.{over_faces}
 use Rattle.stack_law.specs.Stack.{Event, push, pop}
 use Rattle.stack_walks.specs.Corners.{Corner, all_corners, vertex, given_at, taken_at}
-use Rattle.stack_walks.specs.Passing.{Passing, passing}
+use Rattle.stack_walks.specs.Passing.{BoxPassing, box_passing}
 use Rattle.stack_walks.specs.Handing.{has_kept_corner, goes_on, came_from, ends_at, KeptUnbroken}
 use Rattle.stack_walks.specs.HandingLaws.{IsOnlyFace, HasOneWay}
 use Rattle.stack_walks.specs.Streams.{given_out}
@@ -23,8 +23,8 @@ pub count-append : {X : Type 0} (p : X → Bool) (xs ys : List X) → count_by p
 count-append p xs ys = sum_by-append (λ x. cond (p x) 1 0) xs ys
 
 -- one face of six
-module _ (p : Passing → Bool) (q : Bool) (f : Axis → Side → Bool) (on : Axis → Side → ℕ) (x : Axis → Side → Passing) (same : (i : Axis) (h : Side) → p (x i h) ≡ q) where
-  abbrev given_faces : List Passing
+module _ (p : BoxPassing → Bool) (q : Bool) (f : Axis → Side → Bool) (on : Axis → Side → ℕ) (x : Axis → Side → BoxPassing) (same : (i : Axis) (h : Side) → p (x i h) ≡ q) where
+  abbrev given_faces : List BoxPassing
   given_faces = all_given (over_faces (λ i h. if f i h then record { on = on i h; step = push (x i h) } ∷ [] else []))
 
   no_face_given : ((i : Axis) (h : Side) → f i h ≡ false) → count_by p given_faces ≡ 0
@@ -43,14 +43,14 @@ module _ (p : Passing → Bool) (q : Bool) (f : Axis → Side → Bool) (on : Ax
   one_way_given p' k e ends (inr g) = rw (one_face_given g.1.0 g.1.1 g.1.2, g.0) (omega arith)
 
 module _ (counted : ℕ → Box → Bool) (dir : Direction) (axis : ℕ → Axis) (is_cell : ℕ → Bool) (splits : ℕ) (visited kept : ℕ → Box → Bool) (unbroken : KeptUnbroken dir axis splits visited kept is_cell) where
-  abbrev of_passing : Passing → Bool
+  abbrev of_passing : BoxPassing → Bool
   of_passing p = counted p.splits p.vertex
 
   abbrev of_kept : Kept → Bool
   of_kept k = counted k.splits k.vertex
 
-  abbrev at_corner : ℕ → Box → Corner → List (Event Passing)
-  at_corner m b c = over_faces (given_at Passing passing (goes_on dir axis splits visited kept) (came_from dir axis splits visited kept) m b c)
+  abbrev at_corner : ℕ → Box → Corner → List (Event BoxPassing)
+  at_corner m b c = over_faces (given_at BoxPassing box_passing (goes_on dir axis splits visited kept) (came_from dir axis splits visited kept) m b c)
 
   abbrev ended : ℕ → Box → Corner → List Kept
   ended m b c = if ends_at dir axis splits visited kept m b c then kept_vertex m (vertex b c) ∷ [] else []
@@ -63,7 +63,7 @@ module _ (counted : ℕ → Box → Bool) (dir : Direction) (axis : ℕ → Axis
     where
       by_test : (t : Bool) → has_kept_corner dir axis splits visited kept m b c ≡ t → count_by of_passing (all_given (at_corner m b c)) + count_by of_kept (ended m b c) ≡ count_by of_kept (if t then kept_vertex m (vertex b c) ∷ [] else [])
       by_test true e =
-          one_way_given of_passing (counted m (vertex b c)) (goes_on dir axis splits visited kept m b c) (λ i h. lane i h b) (λ i h. passing m (vertex b c) (beyond i h b)) (λ i h. refl) of_kept (kept_vertex m (vertex b c)) refl (ends_at dir axis splits visited kept m b c)
+          one_way_given of_passing (counted m (vertex b c)) (goes_on dir axis splits visited kept m b c) (λ i h. lane i h b) (λ i h. box_passing m (vertex b c) (beyond i h b)) (λ i h. refl) of_kept (kept_vertex m (vertex b c)) refl (ends_at dir axis splits visited kept m b c)
           (each_corner_has_one_way dir axis is_cell splits visited kept unbroken m b c r.cell r.level r.inside e).0
           ∙ one_count (counted m (vertex b c))
         where
@@ -77,26 +77,26 @@ module _ (counted : ℕ → Box → Bool) (dir : Direction) (axis : ℕ → Axis
   corners_counted m b io r (c ∷ cs) =
       let here = corner_counted m b io c r in
       let rest = corners_counted m b io r cs in
-      let given = ap (count_by of_passing) (flat_map-append (λ (e : Event Passing). given_by e.step) (at_corner m b c) (flat_map (at_corner m b) cs)) ∙ count-append of_passing (all_given (at_corner m b c)) (all_given (flat_map (at_corner m b) cs)) in
+      let given = ap (count_by of_passing) (flat_map-append (λ (e : Event BoxPassing). given_by e.step) (at_corner m b c) (flat_map (at_corner m b) cs)) ∙ count-append of_passing (all_given (at_corner m b c)) (all_given (flat_map (at_corner m b) cs)) in
       let out = count-append of_kept (ended m b c) (flat_map (ended m b) cs) in
       let all = count-append of_kept (there m b c) (flat_map (there m b) cs) in
       omega arith
 
-  taken_nothing : (m : ℕ) (b : Box) (cs : List Corner) → all_given (flat_map (λ c. over_faces (taken_at Passing passing (goes_on dir axis splits visited kept) (came_from dir axis splits visited kept) m b c)) cs) ≡ []
+  taken_nothing : (m : ℕ) (b : Box) (cs : List Corner) → all_given (flat_map (λ c. over_faces (taken_at BoxPassing box_passing (goes_on dir axis splits visited kept) (came_from dir axis splits visited kept) m b c)) cs) ≡ []
   taken_nothing m b [] = refl
   taken_nothing m b (c ∷ cs) =
-      flat_map-append (λ (e : Event Passing). given_by e.step) (over_faces (taken_at Passing passing (goes_on dir axis splits visited kept) (came_from dir axis splits visited kept) m b c)) (flat_map (λ c. over_faces (taken_at Passing passing (goes_on dir axis splits visited kept) (came_from dir axis splits visited kept) m b c)) cs)
-      ∙ rw (taken_nothing m b cs, append-nil) (six (came_from dir axis splits visited kept m b c) (λ i h. lane i h b) (passing m (vertex b c) b))
+      flat_map-append (λ (e : Event BoxPassing). given_by e.step) (over_faces (taken_at BoxPassing box_passing (goes_on dir axis splits visited kept) (came_from dir axis splits visited kept) m b c)) (flat_map (λ c. over_faces (taken_at BoxPassing box_passing (goes_on dir axis splits visited kept) (came_from dir axis splits visited kept) m b c)) cs)
+      ∙ rw (taken_nothing m b cs, append-nil) (six (came_from dir axis splits visited kept m b c) (λ i h. lane i h b) (box_passing m (vertex b c) b))
     where
-      one : (t : Bool) (k : ℕ) (x : Passing) (es : List (Event Passing)) → all_given es ≡ [] → all_given ((if t then record { on = k; step = pop x } ∷ [] else []) ++ es) ≡ []
+      one : (t : Bool) (k : ℕ) (x : BoxPassing) (es : List (Event BoxPassing)) → all_given es ≡ [] → all_given ((if t then record { on = k; step = pop x } ∷ [] else []) ++ es) ≡ []
       one true k x es e = e
       one false k x es e = e
 
-      last_one : (t : Bool) (k : ℕ) (x : Passing) → all_given (if t then record { on = k; step = pop x } ∷ [] else []) ≡ []
+      last_one : (t : Bool) (k : ℕ) (x : BoxPassing) → all_given (if t then record { on = k; step = pop x } ∷ [] else []) ≡ []
       last_one true k x = refl
       last_one false k x = refl
 
-      six : (f : Axis → Side → Bool) (on : Axis → Side → ℕ) (x : Passing) → all_given (over_faces (λ i h. if f i h then record { on = on i h; step = pop x } ∷ [] else [])) ≡ []
+      six : (f : Axis → Side → Bool) (on : Axis → Side → ℕ) (x : BoxPassing) → all_given (over_faces (λ i h. if f i h then record { on = on i h; step = pop x } ∷ [] else [])) ≡ []
       six f on x = one (f first low) (on first low) x _ (one (f first high) (on first high) x _ (one (f second low) (on second low) x _ (one (f second high) (on second high) x _ (one (f third low) (on third low) x _ (last_one (f third high) (on third high) x)))))
 
   visit_counted : (v : Visit) → IsRightVisit dir axis is_cell splits v → count_by of_passing (all_given (lane_passings dir axis splits visited kept v)) + count_by of_kept (given_out Kept kept_vertex dir axis splits visited kept v) ≡ count_by of_kept (kept_corners dir axis splits visited kept v)
@@ -108,7 +108,7 @@ module _ (counted : ℕ → Box → Bool) (dir : Direction) (axis : ℕ → Axis
   visits_counted (v ∷ vs) r =
       let here = visit_counted v r.0 in
       let rest = visits_counted vs r.1 in
-      let given = ap (count_by of_passing) (flat_map-append (λ (e : Event Passing). given_by e.step) (lane_passings dir axis splits visited kept v) (flat_map (lane_passings dir axis splits visited kept) vs)) ∙ count-append of_passing (all_given (lane_passings dir axis splits visited kept v)) (all_given (flat_map (lane_passings dir axis splits visited kept) vs)) in
+      let given = ap (count_by of_passing) (flat_map-append (λ (e : Event BoxPassing). given_by e.step) (lane_passings dir axis splits visited kept v) (flat_map (lane_passings dir axis splits visited kept) vs)) ∙ count-append of_passing (all_given (lane_passings dir axis splits visited kept v)) (all_given (flat_map (lane_passings dir axis splits visited kept) vs)) in
       let out = count-append of_kept (given_out Kept kept_vertex dir axis splits visited kept v) (flat_map (given_out Kept kept_vertex dir axis splits visited kept) vs) in
       let all = count-append of_kept (kept_corners dir axis splits visited kept v) (flat_map (kept_corners dir axis splits visited kept) vs) in
       omega arith

@@ -7,7 +7,7 @@ use Rattle.stack_law.specs.Stack.{Event, on_lane, pushed, AreDistinct}
 use Rattle.stack_law.specs.Once.{IsIn}
 use Rattle.stack_walks.specs.Corners.{same_corner, Corner, all_corners, vertex, by_corners}
 use Rattle.stack_law.specs.Moments.{TellsApart, IsNamed, same_box}
-use Rattle.stack_walks.specs.Passing.{Passing, passing, same_passing}
+use Rattle.stack_walks.specs.Passing.{BoxPassing, box_passing, same_box_passing}
 use Rattle.stack_walks.specs.CornerLaws.{CornerLanesHoldTheRest}
 use Rattle.stack_law.specs.Domain.{root}
 use Rattle.stack_law.proofs.Ways.{ways_follow_the_order}
@@ -32,13 +32,13 @@ same_box_exact b c h =
     let r = eqb-true b.x2 c.x2 g.1 in
     λ i. record { x0 = p i; x1 = q i; x2 = r i }
 
-pub passings_decided : TellsApart Passing same_passing
+pub passings_decided : TellsApart BoxPassing same_box_passing
 passings_decided = record { reflexive = itself; exact = alike }
   where
-    itself : (p : Passing) → same_passing p p ≡ true
+    itself : (p : BoxPassing) → same_box_passing p p ≡ true
     itself p = rw (eq-eqb p.splits p.splits refl, same_box_self p.vertex, same_box_self p.cell) refl
 
-    alike : (p q : Passing) → same_passing p q ≡ true → p ≡ q
+    alike : (p q : BoxPassing) → same_box_passing p q ≡ true → p ≡ q
     alike p q h =
         let f = and_true (p.splits == q.splits) _ h in
         let g = and_true (same_box p.vertex q.vertex) _ f.1 in
@@ -112,32 +112,32 @@ module _ (A : Type 0) (same : A → A → Bool) (same_self : (x : A) → same x 
       first_one false g h = g
 
 module _ (goes comes : ℕ → Box → Corner → Axis → Side → Bool) where
-  abbrev handed : ℕ → Box → Axis → Side → List Passing
-  handed = items_of Passing passing goes comes
+  abbrev handed : ℕ → Box → Axis → Side → List BoxPassing
+  handed = items_of BoxPassing box_passing goes comes
 
-  named : IsNamed Passing same_passing (λ p. p.splits) (λ p. p.cell) handed
+  named : IsNamed BoxPassing same_box_passing (λ p. p.splits) (λ p. p.cell) handed
   named = record {
-    level = λ m b i h x k. (let f = at_corner m b i h x k in ap (λ (p : Passing). p.splits) f.1);
-    receiver = λ m b i h x k. (let f = at_corner m b i h x k in ap (λ (p : Passing). p.cell) f.1);
-    distinct = λ m b i h. distinct_at Passing same_passing passings_decided.reflexive passings_decided.exact (λ c. goes m b c i h) (λ c. passing m (vertex b c) (beyond i h b)) (λ c d e. vertex_same b c d (ap (λ (p : Passing). p.vertex) e)) all_corners corners_distinct;
+    level = λ m b i h x k. (let f = at_corner m b i h x k in ap (λ (p : BoxPassing). p.splits) f.1);
+    receiver = λ m b i h x k. (let f = at_corner m b i h x k in ap (λ (p : BoxPassing). p.cell) f.1);
+    distinct = λ m b i h. distinct_at BoxPassing same_box_passing passings_decided.reflexive passings_decided.exact (λ c. goes m b c i h) (λ c. box_passing m (vertex b c) (beyond i h b)) (λ c d e. vertex_same b c d (ap (λ (p : BoxPassing). p.vertex) e)) all_corners corners_distinct;
   }
     where
-      at_corner : (m : ℕ) (b : Box) (i : Axis) (h : Side) (x : Passing) → IsIn x (handed m b i h) → (c : Corner) × (x ≡ passing m (vertex b c) (beyond i h b))
+      at_corner : (m : ℕ) (b : Box) (i : Axis) (h : Side) (x : BoxPassing) → IsIn x (handed m b i h) → (c : Corner) × (x ≡ box_passing m (vertex b c) (beyond i h b))
       at_corner m b i h x k =
-          let f = in_some (λ c. if goes m b c i h then passing m (vertex b c) (beyond i h b) ∷ [] else []) x all_corners k in
-          (f.0, one_at Passing same_passing passings_decided.reflexive passings_decided.exact (λ c. goes m b c i h) (λ c. passing m (vertex b c) (beyond i h b)) (λ c d e. vertex_same b c d (ap (λ (p : Passing). p.vertex) e)) x f.0 (goes m b f.0 i h) f.2)
+          let f = in_some (λ c. if goes m b c i h then box_passing m (vertex b c) (beyond i h b) ∷ [] else []) x all_corners k in
+          (f.0, one_at BoxPassing same_box_passing passings_decided.reflexive passings_decided.exact (λ c. goes m b c i h) (λ c. box_passing m (vertex b c) (beyond i h b)) (λ c d e. vertex_same b c d (ap (λ (p : BoxPassing). p.vertex) e)) x f.0 (goes m b f.0 i h) f.2)
 
 pub corner_lanes_hold_the_rest : CornerLanesHoldTheRest
 corner_lanes_hold_the_rest dir axis is_cell splits goes comes pass done todo e =
-    at_each_moment Passing same_passing passings_decided whole done todo each
-    (corners_pass_along_lanes Passing same_passing passings_decided.reflexive dir axis is_cell splits passing goes comes pass) e
+    at_each_moment BoxPassing same_box_passing passings_decided whole done todo each
+    (corners_pass_along_lanes BoxPassing same_box_passing passings_decided.reflexive dir axis is_cell splits box_passing goes comes pass) e
   where
-    whole : List (Event Passing)
-    whole = flat_map (by_corners Passing passing goes comes) (visits dir axis is_cell splits root walls)
+    whole : List (Event BoxPassing)
+    whole = flat_map (by_corners BoxPassing box_passing goes comes) (visits dir axis is_cell splits root walls)
 
-    each : (k : ℕ) → AreDistinct same_passing (pushed (on_lane k (flat_map (by_corners Passing passing goes comes) (visits dir axis is_cell splits root walls))))
+    each : (k : ℕ) → AreDistinct same_box_passing (pushed (on_lane k (flat_map (by_corners BoxPassing box_passing goes comes) (visits dir axis is_cell splits root walls))))
     each k =
         ⊎_elim
-        (λ below. rw (visits_same Passing passing goes comes dir axis is_cell splits pass k below (visits dir axis is_cell splits root walls) (ways_follow_the_order dir axis is_cell splits)) (given_once Passing same_passing passings_decided (λ p. p.splits) (λ p. p.cell) (handed goes comes) (named goes comes) dir axis is_cell splits k below))
-        (λ above. rw (no_more_corners Passing passing goes comes k above (visits dir axis is_cell splits root walls)) tt)
+        (λ below. rw (visits_same BoxPassing box_passing goes comes dir axis is_cell splits pass k below (visits dir axis is_cell splits root walls) (ways_follow_the_order dir axis is_cell splits)) (given_once BoxPassing same_box_passing passings_decided (λ p. p.splits) (λ p. p.cell) (handed goes comes) (named goes comes) dir axis is_cell splits k below))
+        (λ above. rw (no_more_corners BoxPassing box_passing goes comes k above (visits dir axis is_cell splits root walls)) tt)
         (cases_lt k 6)

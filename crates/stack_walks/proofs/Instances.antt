@@ -7,7 +7,7 @@ use Rattle.stack_law.specs.Around.{IsUnbroken}
 use Rattle.stack_law.specs.Stack.{Event}
 use Rattle.stack_law.specs.Passings.{over_faces}
 use Rattle.stack_walks.specs.Corners.{all_corners, vertex, given_at, taken_at, by_corners, AllPass}
-use Rattle.stack_walks.specs.Passing.{Passing, passing, same_passing}
+use Rattle.stack_walks.specs.Passing.{BoxPassing, box_passing, same_box_passing}
 use Rattle.stack_walks.specs.Handing.{goes_on, came_from, ends_at, begins_at}
 use Rattle.stack_walks.specs.Streams.{taken_in, given_out}
 use Rattle.stack_law.specs.Walk.{IsEmpty, ClosedAreEmpty, HappensAtVisited}
@@ -25,10 +25,10 @@ use Rattle.stack_walks.proofs.Streams.{output_turned_is_input}
 
 -- what happens at kept corners happens at visited cells
 module _ (dir : Direction) (axis : ℕ → Axis) (splits : ℕ) (visited kept : ℕ → Box → Bool) where
-  pub corners_quiet : HappensAtVisited (Event Passing) (by_corners Passing passing (goes_on dir axis splits visited kept) (came_from dir axis splits visited kept)) visited
+  pub corners_quiet : HappensAtVisited (Event BoxPassing) (by_corners BoxPassing box_passing (goes_on dir axis splits visited kept) (came_from dir axis splits visited kept)) visited
   corners_quiet = record {
-    enters = λ m b io e. no_flat (λ c. over_faces (taken_at Passing passing (goes_on dir axis splits visited kept) (came_from dir axis splits visited kept) m b c)) (λ c. rw e refl) (reverse all_corners);
-    leaves = λ m b io e. no_flat (λ c. over_faces (given_at Passing passing (goes_on dir axis splits visited kept) (came_from dir axis splits visited kept) m b c)) (λ c. rw e refl) all_corners;
+    enters = λ m b io e. no_flat (λ c. over_faces (taken_at BoxPassing box_passing (goes_on dir axis splits visited kept) (came_from dir axis splits visited kept) m b c)) (λ c. rw e refl) (reverse all_corners);
+    leaves = λ m b io e. no_flat (λ c. over_faces (given_at BoxPassing box_passing (goes_on dir axis splits visited kept) (came_from dir axis splits visited kept) m b c)) (λ c. rw e refl) all_corners;
   }
 
   pub given_quiet : (A : Type 0) (name : ℕ → Box → A) → HappensAtVisited A (given_out A name dir axis splits visited kept) visited
@@ -40,15 +40,15 @@ module _ (dir : Direction) (axis : ℕ → Axis) (splits : ℕ) (visited kept : 
 pub kept_vertices_use_stacks : KeptVerticesUseStacks
 kept_vertices_use_stacks dir axis is_cell splits visited is_open kept unbroken closed =
     record {
-      emptied = rw same (corners_pass_along_lanes Passing same_passing passings_decided.reflexive dir axis is_cell splits passing (goes_on dir axis splits visited kept) (came_from dir axis splits visited kept) pass);
+      emptied = rw same (corners_pass_along_lanes BoxPassing same_box_passing passings_decided.reflexive dir axis is_cell splits box_passing (goes_on dir axis splits visited kept) (came_from dir axis splits visited kept) pass);
       moments = λ done todo e. corner_lanes_hold_the_rest dir axis is_cell splits (goes_on dir axis splits visited kept) (came_from dir axis splits visited kept) pass done todo (sym same ∙ e);
     }
   where
     pass : AllPass dir axis is_cell splits (goes_on dir axis splits visited kept) (came_from dir axis splits visited kept)
     pass = all_pass dir axis is_cell splits visited kept (goes_on dir axis splits visited kept) (came_from dir axis splits visited kept) (neighbours_tell_the_run dir axis is_cell splits visited kept unbroken)
 
-    same : lane_events dir axis is_cell splits visited is_open kept ≡ flat_map (by_corners Passing passing (goes_on dir axis splits visited kept) (came_from dir axis splits visited kept)) (visits dir axis is_cell splits root walls)
-    same = walk_is dir axis is_cell (Event Passing) (by_corners Passing passing (goes_on dir axis splits visited kept) (came_from dir axis splits visited kept)) visited is_open (corners_quiet dir axis splits visited kept) splits closed splits root walls (omega arith)
+    same : lane_events dir axis is_cell splits visited is_open kept ≡ flat_map (by_corners BoxPassing box_passing (goes_on dir axis splits visited kept) (came_from dir axis splits visited kept)) (visits dir axis is_cell splits root walls)
+    same = walk_is dir axis is_cell (Event BoxPassing) (by_corners BoxPassing box_passing (goes_on dir axis splits visited kept) (came_from dir axis splits visited kept)) visited is_open (corners_quiet dir axis splits visited kept) splits closed splits root walls (omega arith)
 
 -- round a stored vertex nothing is missing
 stored_unbroken : (place : Box → ℕ) (bound : Axis → ℕ) (visited : Box → Bool) (v : Box) → IsStored bound visited v → IsUnbroken place bound visited v

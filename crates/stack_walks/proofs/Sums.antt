@@ -9,7 +9,7 @@ use Rattle.stack_law.specs.Order.{IsRightVisit}
 use Rattle.stack_law.specs.Stack.{Event, among, AreDistinct}
 use Rattle.stack_law.specs.Once.{IsIn}
 use Rattle.stack_walks.specs.Corners.{Corner, all_corners, vertex}
-use Rattle.stack_walks.specs.Passing.{Passing}
+use Rattle.stack_walks.specs.Passing.{BoxPassing}
 use Rattle.stack_walks.specs.Handing.{has_kept_corner, KeptUnbroken}
 use Rattle.stack_walks.specs.Streams.{given_out}
 use Rattle.stack_walks.specs.Counts.{Kept, kept_vertex, same_kept, all_given, kept_corners, lane_passings, run_of, PushesAreRunsLessOne}
@@ -44,24 +44,24 @@ sum_split f g (x ∷ xs) =
     omega arith
 
 -- what is counted for each vertex is all, where each passing is for one of the vertices
-abbrev key : Passing → Kept
+abbrev key : BoxPassing → Kept
 key p = kept_vertex p.splits p.vertex
 
-abbrev for_vertex : Kept → Passing → Bool
+abbrev for_vertex : Kept → BoxPassing → Bool
 for_vertex k p = same_kept (key p) k
 
 module _ (vertices : List Kept) (distinct : AreDistinct same_kept vertices) where
-  abbrev is_missing : Passing → Bool
+  abbrev is_missing : BoxPassing → Bool
   is_missing p = not (among same_kept (key p) vertices)
 
-  known : (p : Passing) → ◌≡◌ {A = ℕ} (cond (is_missing p) 1 0) 0 → IsIn (key p) vertices
+  known : (p : BoxPassing) → ◌≡◌ {A = ℕ} (cond (is_missing p) 1 0) 0 → IsIn (key p) vertices
   known p e = among_is_in Kept same_kept kept_decided.reflexive kept_decided.exact (key p) vertices (by_test (among same_kept (key p) vertices) e)
     where
       by_test : (t : Bool) → ◌≡◌ {A = ℕ} (cond (not t) 1 0) 0 → t ≡ true
       by_test true e = refl
       by_test false e = absurd (omega arith)
 
-  summed : (ps : List Passing) → count_by is_missing ps ≡ 0 → sum_by (λ k. count_by (for_vertex k) ps) vertices ≡ length ps
+  summed : (ps : List BoxPassing) → count_by is_missing ps ≡ 0 → sum_by (λ k. count_by (for_vertex k) ps) vertices ≡ length ps
   summed [] e = sum_none vertices
   summed (p ∷ ps) e =
       let f = count-cons is_missing p ps in
@@ -79,7 +79,7 @@ module _ (dir : Direction) (axis : ℕ → Axis) (is_cell : ℕ → Bool) (split
   abbrev outputs : List Kept
   outputs = flat_map (given_out Kept kept_vertex dir axis splits visited kept) walked
 
-  abbrev passings : List Passing
+  abbrev passings : List BoxPassing
   passings = all_given (flat_map (lane_passings dir axis splits visited kept) walked)
 
   right : (w : Visit) → IsIn w walked → IsRightVisit dir axis is_cell splits w
@@ -128,6 +128,6 @@ all_summed dir axis is_cell splits visited kept unbroken =
 
 pub pushes_are_runs_less_one : PushesAreRunsLessOne
 pushes_are_runs_less_one dir axis is_cell splits visited kept unbroken is_open closed =
-    let events = walk_is dir axis is_cell (Event Passing) (lane_passings dir axis splits visited kept) visited is_open (corners_quiet dir axis splits visited kept) splits closed splits root walls (omega arith) in
+    let events = walk_is dir axis is_cell (Event BoxPassing) (lane_passings dir axis splits visited kept) visited is_open (corners_quiet dir axis splits visited kept) splits closed splits root walls (omega arith) in
     let streams = walk_is dir axis is_cell Kept (given_out Kept kept_vertex dir axis splits visited kept) visited is_open (given_quiet dir axis splits visited kept Kept kept_vertex) splits closed splits root walls (omega arith) in
     rw (events, streams) (all_summed dir axis is_cell splits visited kept unbroken)

@@ -4,7 +4,7 @@ use Rattle.stack_law.specs.Boxes.{Axis, Side, Box, Direction, forward, backward}
 use Rattle.stack_law.specs.Stack.{Step, Event, push, pop, on_lane, pushed, popped}
 use Rattle.stack_law.specs.Visits.{enter, walls}
 use Rattle.stack_law.specs.Order.{rank, extent}
-use Rattle.stack_walks.specs.Passing.{Passing}
+use Rattle.stack_walks.specs.Passing.{BoxPassing}
 use Rattle.stack_law.specs.Moments.{same_box}
 use Rattle.stack_walks.specs.Streams.{taken_in, given_out}
 use Rattle.stack_law.specs.Walk.{walk}
@@ -34,11 +34,11 @@ abbrev pub stored_in_space : ℕ → (ℕ → Box → Bool) → ℕ → Box → 
 stored_in_space splits refined m v = is_stored (extent (axis_in 3) (splits - m) m) (cells_of (axis_in 3) (cell_in 3) splits refined m) v
 
 -- what the lanes get in the plane
-abbrev pub plane_events : Direction → ℕ → (ℕ → Box → Bool) → List (Event Passing)
+abbrev pub plane_events : Direction → ℕ → (ℕ → Box → Bool) → List (Event BoxPassing)
 plane_events dir splits refined = lane_events dir (axis_in 2) (cell_in 2) splits (cells_of (axis_in 2) (cell_in 2) splits refined) refined (stored_in_plane splits refined)
 
 -- and in space
-abbrev pub space_events : Direction → ℕ → (ℕ → Box → Bool) → List (Event Passing)
+abbrev pub space_events : Direction → ℕ → (ℕ → Box → Bool) → List (Event BoxPassing)
 space_events dir splits refined = lane_events dir (axis_in 3) (cell_in 3) splits (cells_of (axis_in 3) (cell_in 3) splits refined) refined (stored_in_space splits refined)
 
 -- how many items are given
@@ -62,7 +62,7 @@ found_on_top [] (pop x ∷ es) = found_on_top [] es
 found_on_top (y ∷ s) (pop x ∷ es) = (x, y) ∷ found_on_top s es
 
 -- the vertices that a cell finds
-abbrev pub found_by : ℕ → Box → List (Passing × Passing) → List Box
+abbrev pub found_by : ℕ → Box → List (BoxPassing × BoxPassing) → List Box
 found_by m b [] = []
 found_by m b (p ∷ ps) = if (p.0.splits == m) && same_box p.0.cell b then p.1.vertex ∷ found_by m b ps else found_by m b ps
 
@@ -116,11 +116,13 @@ lane_of_two_levels k = on_lane k (events ℕ place_of_level forward (axis_in 2) 
 
 -- a lane on which each pop finds on top what it wants, and how often
 abbrev pub IsServed : List (Step ℕ) → ℕ → Type 0
-IsServed steps n = (length (found_on_top [] steps) ≡ n) × (all_of (λ (p : ℕ × ℕ). p.0 == p.1) (found_on_top [] steps) ≡ true)
+IsServed steps n = (length (found_on_top [] steps) ≡ n)
+    × (all_of (λ (p : ℕ × ℕ). p.0 == p.1) (found_on_top [] steps) ≡ true)
 
 -- Eighty-one cells below nine: on each lane 36 items pass between the small cells and 3 between the large ones.
 abbrev pub TwoLevelsLaneByLane : Type 0
-TwoLevelsLaneByLane = IsServed (lane_of_two_levels 0) 39 × IsServed (lane_of_two_levels 1) 39 × IsServed (lane_of_two_levels 2) 39 × IsServed (lane_of_two_levels 3) 39
+TwoLevelsLaneByLane = IsServed (lane_of_two_levels 0) 39 × IsServed (lane_of_two_levels 1) 39
+    × IsServed (lane_of_two_levels 2) 39 × IsServed (lane_of_two_levels 3) 39
 
 -- The counts of three grids: nine cells in the plane, the same with the centre refined, twenty-seven cells in space.
 abbrev pub CountsOfSmallGrids : Type 0

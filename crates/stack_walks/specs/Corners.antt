@@ -61,20 +61,32 @@ module _ (A : Type 0) (name : ℕ → Box → Box → A) (goes comes : ℕ → B
 pub record Passes (place : Box → ℕ) (bound : Axis → ℕ) (goes comes : Box → Corner → Axis → Side → Bool) (b : Box) : Type 0 where
   pub goes_own : (c : Corner) (i : Axis) (h : Side) → goes b c i h ≡ true → side_on i c ≡ h
   pub comes_own : (c : Corner) (i : Axis) (h : Side) → comes b c i h ≡ true → side_on i c ≡ h
-  pub goes_later : (c : Corner) (i : Axis) (h : Side) → goes b c i h ≡ true → IsInner h (coord i b) (bound i) × place b < place (beyond i h b)
-  pub comes_earlier : (c : Corner) (i : Axis) (h : Side) → comes b c i h ≡ true → IsInner h (coord i b) (bound i) × place (beyond i h b) < place b
-  pub comes_from : (c : Corner) (i : Axis) (h : Side) → side_on i c ≡ h → IsInner h (coord i b) (bound i) → place (beyond i h b) < place b → comes b c i h ≡ goes (beyond i h b) (mate i c) i (opposite h)
+  pub goes_later : (c : Corner) (i : Axis) (h : Side) → goes b c i h ≡ true
+      → IsInner h (coord i b) (bound i) × place b < place (beyond i h b)
+  pub comes_earlier : (c : Corner) (i : Axis) (h : Side) → comes b c i h ≡ true
+      → IsInner h (coord i b) (bound i) × place (beyond i h b) < place b
+  pub comes_from : (c : Corner) (i : Axis) (h : Side) → side_on i c ≡ h
+      → IsInner h (coord i b) (bound i) → place (beyond i h b) < place b
+      → comes b c i h ≡ goes (beyond i h b) (mate i c) i (opposite h)
 
 -- the corners of all cells pass
 abbrev pub AllPass : Direction → (ℕ → Axis) → (ℕ → Bool) → ℕ → (ℕ → Box → Corner → Axis → Side → Bool) → (ℕ → Box → Corner → Axis → Side → Bool) → Type 0
-AllPass dir axis is_cell splits goes comes = (m : ℕ) (b : Box) → is_cell m ≡ true → m ≤ splits → IsInDomain (extent axis (splits - m) m) b → Passes (rank dir axis (splits - m) m) (extent axis (splits - m) m) (goes m) (comes m) b
+AllPass dir axis is_cell splits goes comes = (m : ℕ) (b : Box) → is_cell m ≡ true → m ≤ splits
+    → IsInDomain (extent axis (splits - m) m) b
+    → Passes (rank dir axis (splits - m) m) (extent axis (splits - m) m) (goes m) (comes m) b
 
 -- the vertex at a corner goes on to the next of the visited cells round it, and has come from the one before, where the vertex is kept and
 -- that cell lies across the face
 pub record PassesToNext (place : Box → ℕ) (bound : Axis → ℕ) (visited kept : Box → Bool) (goes comes : Box → Corner → Axis → Side → Bool) (b : Box) : Type 0 where
-  pub to_next : (c : Corner) (i : Axis) (h : Side) → (goes b c i h ≡ true) ↔ (kept (vertex b c) ≡ true × side_on i c ≡ h × IsInner h (coord i b) (bound i) × IsNext place bound visited (vertex b c) b (beyond i h b))
-  pub from_before : (c : Corner) (i : Axis) (h : Side) → (comes b c i h ≡ true) ↔ (kept (vertex b c) ≡ true × side_on i c ≡ h × IsInner h (coord i b) (bound i) × IsNext place bound visited (vertex b c) (beyond i h b) b)
+  pub to_next : (c : Corner) (i : Axis) (h : Side)
+      → (goes b c i h ≡ true)
+      ↔ (kept (vertex b c) ≡ true × side_on i c ≡ h × IsInner h (coord i b) (bound i) × IsNext place bound visited (vertex b c) b (beyond i h b))
+  pub from_before : (c : Corner) (i : Axis) (h : Side)
+      → (comes b c i h ≡ true)
+      ↔ (kept (vertex b c) ≡ true × side_on i c ≡ h × IsInner h (coord i b) (bound i) × IsNext place bound visited (vertex b c) (beyond i h b) b)
 
 -- so it is at the corners of all cells
 abbrev pub AllPassToNext : Direction → (ℕ → Axis) → (ℕ → Bool) → ℕ → (ℕ → Box → Bool) → (ℕ → Box → Bool) → (ℕ → Box → Corner → Axis → Side → Bool) → (ℕ → Box → Corner → Axis → Side → Bool) → Type 0
-AllPassToNext dir axis is_cell splits visited kept goes comes = (m : ℕ) (b : Box) → is_cell m ≡ true → m ≤ splits → IsInDomain (extent axis (splits - m) m) b → PassesToNext (rank dir axis (splits - m) m) (extent axis (splits - m) m) (visited m) (kept m) (goes m) (comes m) b
+AllPassToNext dir axis is_cell splits visited kept goes comes = (m : ℕ) (b : Box) → is_cell m ≡ true
+    → m ≤ splits → IsInDomain (extent axis (splits - m) m) b
+    → PassesToNext (rank dir axis (splits - m) m) (extent axis (splits - m) m) (visited m) (kept m) (goes m) (comes m) b

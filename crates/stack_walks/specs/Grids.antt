@@ -54,4 +54,5 @@ one_holds f g m b = f m b || g m b
 
 -- each kept vertex has grid cells alone round it
 abbrev pub KeptAreStored : (ℕ → Axis) → (ℕ → Bool) → ℕ → (ℕ → Box → Bool) → (ℕ → Box → Bool) → Type 0
-KeptAreStored axis is_cell splits cells kept = (m : ℕ) (v : Box) → is_cell m ≡ true → m ≤ splits → kept m v ≡ true → IsStored (extent axis (splits - m) m) (cells m) v
+KeptAreStored axis is_cell splits cells kept = (m : ℕ) (v : Box) → is_cell m ≡ true → m ≤ splits
+    → kept m v ≡ true → IsStored (extent axis (splits - m) m) (cells m) v

@@ -51,4 +51,5 @@ module _ (dir : Direction) (axis : ℕ → Axis) (splits : ℕ) (visited kept : 
 
   -- round each kept vertex the visited cells are unbroken
   abbrev pub KeptUnbroken : (ℕ → Bool) → Type 0
-  KeptUnbroken is_cell = (m : ℕ) (v : Box) → is_cell m ≡ true → m ≤ splits → kept m v ≡ true → IsUnbroken (rank dir axis (splits - m) m) (extent axis (splits - m) m) (visited m) v
+  KeptUnbroken is_cell = (m : ℕ) (v : Box) → is_cell m ≡ true → m ≤ splits → kept m v ≡ true
+      → IsUnbroken (rank dir axis (splits - m) m) (extent axis (splits - m) m) (visited m) v

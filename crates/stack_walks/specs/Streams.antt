@@ -21,4 +21,6 @@ module _ (A : Type 0) (name : ℕ → Box → A) (dir : Direction) (axis : ℕ �
 
 -- round each kept vertex two walks visit the same cells
 abbrev pub AgreeRoundKept : (ℕ → Axis) → (ℕ → Bool) → ℕ → (ℕ → Box → Bool) → (ℕ → Box → Bool) → (ℕ → Box → Bool) → Type 0
-AgreeRoundKept axis is_cell splits visited visited' kept = (m : ℕ) (v b : Box) → is_cell m ≡ true → m ≤ splits → kept m v ≡ true → IsInDomain (extent axis (splits - m) m) b → Touches v b → visited m b ≡ visited' m b
+AgreeRoundKept axis is_cell splits visited visited' kept = (m : ℕ) (v b : Box) → is_cell m ≡ true
+    → m ≤ splits → kept m v ≡ true → IsInDomain (extent axis (splits - m) m) b → Touches v b
+    → visited m b ≡ visited' m b

@@ -18,14 +18,14 @@ use Rattle.step_calls.specs.Visitors.{PrimaryCall, PrimaryCalls, SecondaryCall, 
 use Rattle.step_calls.proofs.Calls.{BothCalls, calls_make_sweep}
 
 pub primary_calls : PrimaryCalls
-primary_calls k w ready t s at fits visits made = calls_make_sweep k w.old t s (PrimaryCall k w ready t) (PrimaryChanges k w ready t) at fits visits made
-    (λ c old new h. subst (PrimaryChanges k w ready t c old) (sym h.left) h.entered)
+primary_calls k w t s at fits visits made = calls_make_sweep k w.old t s (PrimaryCall k w t) (PrimaryChanges k w t) at fits visits made
+    (λ c old new h. subst (PrimaryChanges k w t c old) (sym h.left) h.entered)
     (λ c old new none same. record {
       status = ap (λ (s : Slot). s.status) same;
       value = ap (λ (s : Slot). s.value) same;
       intent = ap (λ (s : Slot). s.intent) same;
       mark = λ owns. absurd (none owns);
-      next = λ owns. absurd (none owns);
+      next = λ skeleton. absurd (none skeleton.0.owns);
     })
 
 module _ (k : Cuts) (w : Change) (t : ℕ) (c : CellKey) (old new : Slot) (h : BothCalls (SecondaryCall k w t) c old new) where

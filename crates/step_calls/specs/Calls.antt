@@ -22,7 +22,8 @@ pub record CallChanges (cell : CellKey) (E : Slot → Slot → Type 0) (c : Cell
 
 -- a tree's store before the first call and after each: what a call does depends on whether the cell is left, and on the cell
 pub record AreMade (k : Cuts) (g : Spacetree) (t : ℕ) (s : Calls) (E : Bool → CellKey → Slot → Slot → Type 0) (at : ℕ → Store) : Type 0 where
-  pub step : (m : ℕ) (v : VertexKey) → m < s.count → HasVertex k g t v → IsSweptRecord k (CallChanges (s.cell m) (E (s.leaving m) (s.cell m))) v (at m v) (at (m + 1) v)
+  pub step : (m : ℕ) (v : VertexKey) → m < s.count → HasVertex k g t v
+      → IsSweptRecord k (CallChanges (s.cell m) (E (s.leaving m) (s.cell m))) v (at m v) (at (m + 1) v)
 
 -- a cell is entered and left once
 pub record IsVisited (s : Calls) (c : CellKey) (enter leave : ℕ) : Type 0 where
@@ -56,4 +57,5 @@ pub record IsBelow (p c : CellKey) : Type 0 where
 
 -- between the enter and the leave of a cell only cells below it are visited
 abbrev pub AreNested : Calls → Type 0
-AreNested s = (p : CellKey) (enter leave m : ℕ) → IsVisited s p enter leave → enter < m → m < leave → IsBelow p (s.cell m)
+AreNested s = (p : CellKey) (enter leave m : ℕ) → IsVisited s p enter leave → enter < m → m < leave
+    → IsBelow p (s.cell m)

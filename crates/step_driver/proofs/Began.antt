@@ -1,5 +1,5 @@
 -- The part of a step that computes: each sweep and exchange leads to what the next one asks, and what is noted where it stops.
-use Rattle.std.proofs.Common.{append_assoc, ◌≡◌, ℕ, zero, suc, ◌≤◌, List, [], ◌∷◌, ◌++◌, ap, sym, subst, ◌∙◌, ⊎_elim, arith}
+use Rattle.std.proofs.Common.{append_assoc, ◌≡◌, ℕ, zero, suc, ◌≤◌, List, [], ◌∷◌, ◌++◌, refl, ap, sym, subst, ◌∙◌, ⊎_elim, arith}
 use Rattle.std.specs.Prelude.{Option, Result, Ok, Err, OnErr}
 use Rattle.std.proofs.lemmas.Bool.{cases_eq}
 use Rattle.std.proofs.lemmas.List.{append-nil}
@@ -21,7 +21,7 @@ use Rattle.step_sweeps.specs.Sweeps.{IsToFinish}
 use Rattle.step_world.specs.Notes.{by_trees}
 use Rattle.spacetree.proofs.Exists.{next_grid_exists}
 use Rattle.step_world.proofs.Worlds.{deep_grid}
-use Rattle.step_driver.specs.declared.finishing.Turnover.{Turnover}
+use Rattle.step_driver.specs.declared.finishing.Findings.{Findings}
 use Rattle.step_driver.specs.Stores.{store_of, AreTrees, AllMerged, AllHaveLists}
 use Rattle.step_driver.specs.Notes.{AddsFirst}
 use Rattle.step_driver.specs.Computing.{AllStandOn, AreComputed}
@@ -69,6 +69,10 @@ adds_after old mid now first then before h = (
   ap (λ xs. first ++ xs) h.3 ∙ sym (append_assoc first h.0 h.1),
 )
 
+-- or none were added,
+pub adds_none : (old all : List Note) → AddsFirst old old all
+adds_none old all = ([], all, sym (append-nil old), refl)
+
 -- or all are there
 pub adds_all : (old now all : List Note) → now ≡ old ++ all → AddsFirst old now all
 adds_all old now all noted = (all, [], noted, sym (append-nil all))
@@ -98,7 +102,7 @@ module _ (kernel : Kernel) (k : Cuts) (dir : Direction) (g : Spacetree) (f : Sta
   pub grid_exists : (new : Spacetree) × IsNextGrid g (marks_of kernel.marked g f) new
   grid_exists = next_grid_exists g (marks_of kernel.marked g f) (deep_grid k g all.grid)
 
-  module _ (swept : List TreeLists) (old noted : List Note) (failing : Option CellKey) (h : AreComputed kernel k dir g f step k.trees before swept old noted failing) where
+  module _ (swept : List TreeLists) (old noted : List Note) (failing : Option CellKey) (h : AreComputed kernel k dir g f step before swept old noted failing) where
     abbrev new : Spacetree
     new = grid_exists.0
 
@@ -113,26 +117,26 @@ module _ (kernel : Kernel) (k : Cuts) (dir : Direction) (g : Spacetree) (f : Sta
     swept_trees = trees_from_lists k (turned_round dir) g swept all.grid (computed_lists kernel k dir (pending kernel g f new) f step all.grid by to_finish before swept old noted failing all h)
 
     -- and then be finished
-    pub are_marked : (after : List TreeLists) → AllMerged First k swept after → AllMarked k (turned_round dir) (pending kernel g f new) f after
+    pub are_marked : (after : List TreeLists) → AllMerged First k swept after → AllMarked kernel k (turned_round dir) (pending kernel g f new) f after
     are_marked after merged = marked kernel k dir (pending kernel g f new) f step all.grid by to_finish before swept old noted failing all h after merged
 
-    pub can_finish : (after : List TreeLists) → AllMerged First k swept after → AllCanFinish k after
+    pub can_finish : (after : List TreeLists) → AllMerged First k swept after → AllCanFinish kernel k after
     can_finish after merged = (turned_round dir, pending kernel g f new, f, are_marked after merged)
 
 -- finished stores have the lists of the grid,
-pub finished_lists : (k : Cuts) (dir : Direction) (w : Change) (f : States) (step : ℕ) (before after : List TreeLists) (old noted : List Note) (turnover : Turnover) → AllMarked k dir w f before →
-    AreFinished k dir w step k.trees before after old noted turnover → AllHaveLists k (turned_round dir) w.old after
-finished_lists k dir w f step before after old noted turnover all h = record { count = h.trees.count ∙ all.count; each = λ t below. (h.trees.changed t below).lists }
+pub finished_lists : (k : Cuts) (dir : Direction) (w : Change) (step : ℕ) (before after : List TreeLists) (old noted : List Note) (found : Findings) →
+    AreFinished k dir w step before after old noted found → AllHaveLists k (turned_round dir) w.old after
+finished_lists k dir w step before after old noted found h = record { count = h.trees.count; each = λ t below. (h.trees.changed t below).lists }
 
 -- and can exchange
-pub finished_trees : (k : Cuts) (dir : Direction) (w : Change) (f : States) (step : ℕ) (before after : List TreeLists) (old noted : List Note) (turnover : Turnover) → IsCutGrid k w.old → AllMarked k dir w f before →
-    AreFinished k dir w step k.trees before after old noted turnover → AreTrees k after
-finished_trees k dir w f step before after old noted turnover fits all h = trees_from_lists k (turned_round dir) w.old after fits (finished_lists k dir w f step before after old noted turnover all h)
+pub finished_trees : (k : Cuts) (dir : Direction) (w : Change) (step : ℕ) (before after : List TreeLists) (old noted : List Note) (found : Findings) → IsCutGrid k w.old →
+    AreFinished k dir w step before after old noted found → AreTrees k after
+finished_trees k dir w step before after old noted found fits h = trees_from_lists k (turned_round dir) w.old after fits (finished_lists k dir w step before after old noted found h)
 
 -- so do adapted ones those of the new grid,
-pub adapted_lists : (k : Cuts) (dir : Direction) (w : Change) (step : ℕ) (before after : List TreeLists) (old noted : List Note) → AllCanAdapt k dir w before → AreAdapted k dir w step k.trees before after old noted → AllHaveLists k (turned_round dir) w.new after
-adapted_lists k dir w step before after old noted all h = record { count = h.trees.count ∙ all.count; each = λ t below. (h.trees.changed t below).lists }
+pub adapted_lists : (k : Cuts) (dir : Direction) (w : Change) (step : ℕ) (before after : List TreeLists) (old noted : List Note) → AllCanAdapt k dir w before → AreAdapted k dir w step before after old noted → AllHaveLists k (turned_round dir) w.new after
+adapted_lists k dir w step before after old noted all h = record { count = h.trees.count; each = λ t below. (h.trees.changed t below).lists }
 
 -- and can exchange
-pub adapted_trees : (k : Cuts) (dir : Direction) (w : Change) (step : ℕ) (before after : List TreeLists) (old noted : List Note) → AllCanAdapt k dir w before → AreAdapted k dir w step k.trees before after old noted → AreTrees k after
+pub adapted_trees : (k : Cuts) (dir : Direction) (w : Change) (step : ℕ) (before after : List TreeLists) (old noted : List Note) → AllCanAdapt k dir w before → AreAdapted k dir w step before after old noted → AreTrees k after
 adapted_trees k dir w step before after old noted all h = trees_from_lists k (turned_round dir) w.new after all.grid (adapted_lists k dir w step before after old noted all h)

@@ -20,7 +20,7 @@ use Rattle.sweep_streams.proofs.Lists.{same_length}
 use Rattle.sweep_streams.proofs.Pushes.{streams_are_stored, pushes_are_runs_less_one}
 use Rattle.tree_automaton.specs.AtRest.{plain_plan, raising_plan}
 use Rattle.tree_automaton.proofs.Lists.{no_items}
-use Rattle.adapt_sweep.specs.Noted.{note_of}
+use Rattle.tree_automaton.specs.Noted.{note_of}
 use Rattle.adapt_sweep.specs.Adapting.{adapting_plan}
 use Rattle.peano_keys.specs.declared.cell.CellKey.{CellKey}
 use Rattle.peano_keys.specs.Vertex.{IsVertex}

@@ -1,13 +1,13 @@
--- The secondary sweeps of all trees, tree after tree.
-use Rattle.std.proofs.Common.{◌≡◌, ◌≢◌, ℕ, zero, suc, ◌+◌, ◌<◌, ◌==◌, Bool, List, [], ◌∷◌, ◌++◌, length, if◌then◌else◌, refl, ap, ap₂, sym, subst, ◌∙◌, ⊎_elim, append-nil, arith}
-use Rattle.std.specs.Prelude.{slice_set}
+-- The secondary sweeps of all trees, and what they count, tree after tree.
+use Rattle.std.proofs.Common.{◌≡◌, ◌≢◌, ℕ, zero, suc, ◌+◌, ◌<◌, ◌==◌, Bool, List, [], ◌∷◌, ◌++◌, map, if◌then◌else◌, refl, ap, ap₂, sym, subst, ◌∙◌, ⊎_elim, append-nil, arith}
+use Rattle.std.specs.Prelude.{Option, None}
 use Rattle.std.proofs.lemmas.Bool.{cases_eq, eq-eqb, ne_eqb}
-use Rattle.std.proofs.lemmas.List.{length-set, get_or-set_same, get_or-set_other}
 use Rattle.peano_keys.specs.declared.cell.CellKey.{CellKey}
 use Rattle.peano_keys.specs.Field.{States}
 use Rattle.peano_keys.specs.Next.{Splits, Merges}
 use Rattle.peano_curve.specs.declared.order.Direction.{Direction}
 use Rattle.curve_cuts.specs.Cuts.{Cuts, Owns, IsCutGrid}
+use Rattle.curve_cuts.specs.Enclave.{IsEnclave}
 use Rattle.vertex_stacks.specs.declared.kind.Kind.TheVariants.{Secondary}
 use Rattle.vertex_stacks.specs.Notes.{Note}
 use Rattle.vertex_stacks.specs.Tales.{capped, with_note}
@@ -15,15 +15,21 @@ use Rattle.tree_automaton.specs.TreeLists.{TreeLists}
 use Rattle.step_phases.specs.Change.{Change}
 use Rattle.spacetree.specs.Counts.{CountsCells}
 use Rattle.step_world.specs.Counts.{total}
+use Rattle.step_world.specs.Failing.{FailsAmong, IsLeastFound}
 use Rattle.step_world.specs.Notes.{note_over}
 use Rattle.step_sweeps.specs.declared.tally.Tally.{Tally}
-use Rattle.step_sweeps.specs.Sweeps.{IsMarked, CountsOwn, IsSecondarySwept}
-use Rattle.step_driver.specs.declared.finishing.Turnover.{Turnover}
-use Rattle.step_driver.specs.Stores.{no_store, store_of, ChangesTree}
+use Rattle.step_sweeps.specs.Kernels.{Kernel}
+use Rattle.step_sweeps.specs.Sweeps.{CountsOwn, IsSecondarySwept}
+use Rattle.step_driver.specs.declared.finishing.Findings.{Findings}
+use Rattle.step_driver.specs.declared.beside.Swept.{Swept}
+use Rattle.step_driver.specs.Gives.{EachGives}
+use Rattle.step_driver.specs.Stores.{store_of, ChangesEach}
 use Rattle.step_driver.specs.Notes.{sizes_of}
-use Rattle.step_driver.specs.Finishing.{AllMarked, IsFinishedAt, IsFinishedTree, CountsFirst, AreFinished}
-use Rattle.step_driver.proofs.Changes.{none_changed, one_more}
+use Rattle.step_driver.specs.Computing.{least_with}
+use Rattle.step_driver.specs.Finishing.{AllMarked, Finishes, IsFinishedTree, CountsFirst, CountedFirst}
+use Rattle.step_driver.proofs.Gives.{each_changes}
 use Rattle.step_driver.proofs.Counts.{note_plain}
+use Rattle.step_driver.proofs.Least.{found_with, here, there, least_more}
 use Rattle.step_driver.proofs.Notes.{next, one_noted}
 
 -- sums of the same numbers
@@ -62,28 +68,19 @@ module _ (k : Cuts) (P : CellKey → Type 0) where
       told = ap₂ (λ a b. capped (a + b)) h.told own.told ∙ capped_sum (total m h.counts) own.count ∙ ap capped (sym sum ∙ ap (λ q. total q counts) (next m));
     }
 
-module _ (k : Cuts) (step : ℕ) where
-  -- one tree's sweep, in the list of all stores
-  pub finished_at : (t : ℕ) (before : List TreeLists) (x y : TreeLists) (note : Note) (tally : Tally) → t < length before → x ≡ store_of before t →
-      ((dir : Direction) (w : Change) (f : States) → IsMarked k dir w f x → IsSecondarySwept k dir w step x y note tally) → IsFinishedAt k step t before (slice_set before t y) note tally
-  finished_at t before x y note tally inside is swept = record {
-    count = length-set before t y;
-    swept = λ dir w f marked.
-        subst (λ z. IsSecondarySwept k dir w step (store_of before t) z note tally) (sym (get_or-set_same before t y no_store inside))
-        (subst (λ z. IsSecondarySwept k dir w step z y note tally) is (swept dir w f (subst (IsMarked k dir w f) (sym is) marked)));
-    others = λ s apart. get_or-set_other before t s y no_store apart;
-  }
-
-  -- to begin with nothing is finished
-  pub none_finished : (dir : Direction) (w : Change) (before : List TreeLists) (old : List Note) → AreFinished k dir w step 0 before before old old (record { splits = 0; merges = 0 })
-  none_finished dir w before old = record {
-    trees = none_changed (IsFinishedTree k dir w step) before;
+module _ (kernel : Kernel) (k : Cuts) (step : ℕ) where
+  -- to begin with nothing is counted
+  pub none_finished : (w : Change) (old : List Note) → CountedFirst k w step 0 old old (record { failing = None; turnover = record { splits = 0; merges = 0 } })
+  none_finished w old = record {
     noted = sym (append-nil old);
     splits = none_counted k (Splits w.old w.mark);
     merges = none_counted k (Merges w.old w.mark);
+    failing = λ t. None;
+    tells = λ t below. absurd (omega (arith, below));
+    least = λ s below. refl;
   }
 
-  module _ (dir : Direction) (w : Change) (f : States) (fits : IsCutGrid k w.old) where
+  module _ (dir : Direction) (w : Change) (f : States) where
     abbrev mine : ℕ → Note
     mine t = note_over (sizes_of k) step Secondary w.old t
 
@@ -93,33 +90,44 @@ module _ (k : Cuts) (step : ℕ) where
       pub note_is : note ≡ mine t
       pub splits : CountsOwn k t (Splits w.old w.mark) tally.splits
       pub merges : CountsOwn k t (Merges w.old w.mark) tally.merges
+      pub failing : FailsAmong (IsEnclave k w.old t) w.next tally.failing
 
-    gives_own : (x y : TreeLists) (note : Note) (tally : Tally) → IsSecondarySwept k dir w step x y note tally → GivesFinished x.tree x y note tally
-    gives_own x y note tally h =
-        let noted : note ≡ mine x.tree = h.noted.note_is ∙ note_plain k w.old dir Secondary step x.tree fits in
+    gives_own : (x y : TreeLists) (note : Note) (tally : Tally) → IsCutGrid k w.old → IsSecondarySwept k dir w step x y note tally → GivesFinished x.tree x y note tally
+    gives_own x y note tally fits h =
+        let noted : note ≡ mine x.tree = h.noted.counts ∙ note_plain k w.old dir Secondary step x.tree fits in
         record {
           tree = record { lists = h.lists; slots = h.slots; said = h.said; tale = h.noted.tale ∙ ap (with_note x.lanes.tale) noted };
           note_is = noted;
           splits = h.tallied.splits;
           merges = h.tallied.merges;
+          failing = h.tallied.failing;
         }
 
-    gives_finished : (t : ℕ) (x y : TreeLists) (note : Note) (tally : Tally) → x.tree ≡ t → IsSecondarySwept k dir w step x y note tally → GivesFinished t x y note tally
-    gives_finished t x y note tally is h = subst (λ n. GivesFinished n x y note tally) is (gives_own x y note tally h)
+    gives_finished : (t : ℕ) (x y : TreeLists) (note : Note) (tally : Tally) → IsCutGrid k w.old → x.tree ≡ t → IsSecondarySwept k dir w step x y note tally → GivesFinished t x y note tally
+    gives_finished t x y note tally fits is h = subst (λ n. GivesFinished n x y note tally) is (gives_own x y note tally fits h)
 
-    -- and then one more
-    pub finished_more : (m : ℕ) (before now new : List TreeLists) (old notes : List Note) (note : Note) (tally : Tally) (turnover after : Turnover) → AllMarked k dir w f before → m < k.trees →
-        AreFinished k dir w step m before now old notes turnover → IsFinishedAt k step m now new note tally → after.splits ≡ capped (turnover.splits + tally.splits) → after.merges ≡ capped (turnover.merges + tally.merges) →
-        AreFinished k dir w step (m + 1) before new old (notes ++ note ∷ []) after
-    finished_more m before now new old notes note tally turnover after all below h at splits merges =
-        let was = h.trees.others m (omega arith) in
-        let number : (store_of now m).tree ≡ m = ap (λ (s : TreeLists). s.tree) was ∙ all.number m below in
-        let marked = subst (IsMarked k dir w f) (sym was) (all.each m below) in
-        let gives : GivesFinished m (store_of now m) (store_of new m) note tally = gives_finished m (store_of now m) (store_of new m) note tally number (at.swept dir w f marked) in
-        let one : ChangesTree (IsFinishedTree k dir w step) m now new = record { count = at.count; changed = gives.tree; others = at.others } in
+    gives_at : (before : List TreeLists) (m : ℕ) (r : Swept Tally) → AllMarked kernel k dir w f before → m < k.trees → Finishes kernel k step (store_of before m) r → GivesFinished m (store_of before m) r.store r.note r.found
+    gives_at before m r all below finishes = gives_finished m (store_of before m) r.store r.note r.found (all.each m below).grid (all.number m below) (finishes dir w f (all.each m below))
+
+    -- the stores of all trees
+    pub stores_finished : (before after : List TreeLists) (swept : List (Swept Tally)) → AllMarked kernel k dir w f before → EachGives (Finishes kernel k step) before swept → after ≡ map (λ (r : Swept Tally). r.store) swept → ChangesEach (IsFinishedTree k dir w step) k.trees before after
+    stores_finished before after swept all gives is = each_changes (Finishes kernel k step) (IsFinishedTree k dir w step) (λ (r : Swept Tally). r.store) k.trees before after swept all.count gives is (λ t r below finishes. (gives_at before t r all below finishes).tree)
+
+    -- and what one tree more counts
+    pub finished_more : (m : ℕ) (before : List TreeLists) (old notes : List Note) (r : Swept Tally) (found after : Findings) → AllMarked kernel k dir w f before → m < k.trees →
+        CountedFirst k w step m old notes found → Finishes kernel k step (store_of before m) r → after.failing ≡ least_with found.failing r.found.failing →
+        after.turnover.splits ≡ capped (found.turnover.splits + r.found.splits) → after.turnover.merges ≡ capped (found.turnover.merges + r.found.merges) →
+        CountedFirst k w step (m + 1) old (notes ++ r.note ∷ []) after
+    finished_more m before old notes r found after all below h finishes failing splits merges =
+        let gives = gives_at before m r all below finishes in
         record {
-          trees = one_more (IsFinishedTree k dir w step) m before now new h.trees one;
-          noted = ap (λ (xs : List Note). xs ++ note ∷ []) h.noted ∙ one_noted mine m old note gives.note_is;
-          splits = subst (λ (n : ℕ). CountsFirst k (Splits w.old w.mark) (m + 1) n) (sym splits) (counted_more k (Splits w.old w.mark) m turnover.splits tally.splits h.splits gives.splits);
-          merges = subst (λ (n : ℕ). CountsFirst k (Merges w.old w.mark) (m + 1) n) (sym merges) (counted_more k (Merges w.old w.mark) m turnover.merges tally.merges h.merges gives.merges);
+          noted = ap (λ (xs : List Note). xs ++ r.note ∷ []) h.noted ∙ one_noted mine m old r.note gives.note_is;
+          splits = subst (λ (n : ℕ). CountsFirst k (Splits w.old w.mark) (m + 1) n) (sym splits) (counted_more k (Splits w.old w.mark) m found.turnover.splits r.found.splits h.splits gives.splits);
+          merges = subst (λ (n : ℕ). CountsFirst k (Merges w.old w.mark) (m + 1) n) (sym merges) (counted_more k (Merges w.old w.mark) m found.turnover.merges r.found.merges h.merges gives.merges);
+          failing = found_with m r.found.failing h.failing;
+          tells = λ t inside. ⊎_elim
+              (λ e. subst (λ n. FailsAmong (IsEnclave k w.old n) w.next (found_with m r.found.failing h.failing n)) (sym e) (subst (λ (o : Option CellKey). FailsAmong (IsEnclave k w.old m) w.next o) (sym (here m r.found.failing h.failing)) gives.failing))
+              (λ apart. subst (λ (o : Option CellKey). FailsAmong (IsEnclave k w.old t) w.next o) (sym (there m r.found.failing h.failing t apart)) (h.tells t (omega (arith, inside, apart))))
+              (cases_eq t m);
+          least = subst (IsLeastFound (m + 1) (found_with m r.found.failing h.failing)) (sym failing) (least_more m h.failing found.failing r.found.failing h.least);
         }

@@ -1,15 +1,14 @@
 -- Keys to start with exist: the leaves of a grid can be put along the curve and shared.
-use Rattle.std.proofs.Common.{◌≡◌, inl, inr, ℕ, zero, suc, ◌+◌, ◌*◌, ◌/◌, ◌^◌, ◌<◌, ◌≤◌, true, List, [], ◌∷◌, ◌++◌, length, get_or, refl, sym, subst, arith, add-one}
-use Rattle.stack_law.specs.Once.{IsIn}
+use Rattle.std.proofs.Common.{ℕ, zero, suc, ◌*◌, ◌/◌, ◌^◌, ◌≤◌, List, [], ◌∷◌, ◌++◌, length, get_or, refl, subst, arith, add-one}
 use Rattle.peano_keys.specs.declared.cell.CellKey.{CellKey}
-use Rattle.peano_keys.specs.Cell.{IsCell, root}
-use Rattle.peano_keys.specs.Grid.{Spacetree, IsGrid, is_leaf}
-use Rattle.peano_curve.specs.Order.{children, interval_start}
+use Rattle.peano_keys.specs.Dim.{children}
+use Rattle.peano_keys.specs.Cell.{root}
+use Rattle.peano_keys.specs.Grid.{Spacetree, IsGrid}
+use Rattle.peano_curve.specs.Order.{interval_start}
 use Rattle.solver_api.specs.Step.{IsLeafOf}
 use Rattle.spacetree.proofs.Leaves.{leaf_there}
 use Rattle.spacetree.proofs.AllCells.{all_cells, listed}
 use Rattle.spacetree.proofs.Told.{leaf_told}
-use Rattle.curve_cuts.specs.Keys.{first_leaf}
 use Rattle.curve_cuts.specs.Leaves.{AreLeaves, InCurveOrder}
 use Rattle.curve_cuts.proofs.Filled.{IsFilled, filled_more}
 use Rattle.curve_cuts.proofs.Leaves.{are_cuts, equal_cuts, some_leaf}

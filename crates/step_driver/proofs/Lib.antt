@@ -1,5 +1,6 @@
 pub mod Places
-pub mod Changes
+pub mod Gives
+pub mod Jobs
 pub mod Exchanges
 pub mod Counts
 pub mod Notes
@@ -7,6 +8,8 @@ pub mod Standing
 pub mod Starts
 pub mod Begins
 pub mod Least
+pub mod Among
+pub mod EachTree
 pub mod Computed
 pub mod Finished
 pub mod Pend
@@ -16,6 +19,7 @@ pub mod Sizes
 pub mod Refused
 pub mod NextTold
 pub mod Began
+pub mod SweptTwice
 pub mod Stepped
 pub mod Taken
 pub mod Advances

@@ -19,7 +19,6 @@ use Rattle.swept_slots.specs.Copies.{copies}
 use Rattle.swept_slots.proofs.Stores.{rest_is_said}
 use Rattle.boundary_streams.specs.Trees.{copies_of}
 use Rattle.step_sweeps.specs.Kernels.{Kernel, IsChangeBy}
-use Rattle.step_sweeps.specs.Primaries.{every_leaf}
 use Rattle.step_sweeps.specs.Sweeps.{IsToFinish}
 use Rattle.step_driver.specs.Stores.{store_of, AllMerged, AllHaveLists}
 use Rattle.step_driver.specs.Computing.{AllStandOn, AreComputed}
@@ -27,11 +26,11 @@ use Rattle.step_driver.specs.Finishing.{AllMarked}
 use Rattle.step_driver.proofs.Exchanges.{lists_after, owners_taken}
 
 module _ (kernel : Kernel) (k : Cuts) (dir : Direction) (w : Change) (f : States) (step : ℕ) (fits : IsCutGrid k w.old) (change : IsChangeBy kernel w.old f w) (finish : IsToFinish w f)
-    (before swept : List TreeLists) (old notes : List Note) (failing : Option CellKey) (all : AllStandOn k kernel.parts dir w.old f before) (h : AreComputed kernel k dir w.old f step k.trees before swept old notes failing) where
+    (before swept : List TreeLists) (old notes : List Note) (failing : Option CellKey) (all : AllStandOn k kernel.parts dir w.old f before) (h : AreComputed kernel k dir w.old f step before swept old notes failing) where
   -- the swept stores have the lists of the grid
   pub computed_lists : AllHaveLists k (turned_round dir) w.old swept
   computed_lists = record {
-    count = h.trees.count ∙ all.count;
+    count = h.trees.count;
     each = λ t below.
         let tree = h.trees.changed t below in
         subst (λ n. HasLists (plain_plan k.depth (range_of k n) (turned_round dir) w.old) n (store_of swept t)) tree.number tree.stands.stands.lists;
@@ -43,14 +42,14 @@ module _ (kernel : Kernel) (k : Cuts) (dir : Direction) (w : Change) (f : States
       says_less k v (AtRest w.old (value_of w.old f)) (AtRest w.old w.value) (copies (store_of before t).lanes.input v) (λ c s r. record { status = r.status; value = r.value ∙ sym (finish.values c); stay = r.stay })
       (rest_is_said k w.old f t t dir (store_of before t) fits stands v has)
 
-  primary : AllSay k w.old (AfterPrimary k w every_leaf) (copies_of (store_of swept))
-  primary t v has = primary_sweep k w every_leaf t (copies (store_of before t).lanes.input) (copies (store_of swept t).lanes.input) (rests t has.corner.tree) ((h.trees.changed t has.corner.tree).slots w change) v has
+  primary : AllSay k w.old (AfterPrimary k w) (copies_of (store_of swept))
+  primary t v has = primary_sweep k w t (copies (store_of before t).lanes.input) (copies (store_of swept t).lanes.input) (rests t has.corner.tree) ((h.trees.changed t has.corner.tree).slots w change) v has
 
-  -- and after the exchange all copies have the marks and new values of all leaves
-  pub marked : (after : List TreeLists) → AllMerged First k swept after → AllMarked k (turned_round dir) w f after
+  -- and after the exchange all copies have the marks of all leaves and the new values of the skeleton leaves
+  pub marked : (after : List TreeLists) → AllMerged First k swept after → AllMarked kernel k (turned_round dir) w f after
   marked after merged =
       let lists = lists_after First k (turned_round dir) w.old swept after computed_lists merged in
-      let says = first_exchange k w every_leaf (copies_of (store_of swept)) (copies_of (store_of after)) fits primary (owners_taken First k (turned_round dir) w.old swept after fits computed_lists merged) in
+      let says = first_exchange k w (copies_of (store_of swept)) (copies_of (store_of after)) fits primary (owners_taken First k (turned_round dir) w.old swept after fits computed_lists merged) in
       record {
         count = lists.count;
         number = λ t below. (lists.each t below).tree;
@@ -58,9 +57,11 @@ module _ (kernel : Kernel) (k : Cuts) (dir : Direction) (w : Change) (f : States
             let number = (lists.each t below).tree in
             record {
               grid = fits;
+              field = (all.each t below).field;
+              by = change;
               change = finish;
               tree = omega (arith, below, number);
               lists = subst (λ n. HasLists (plain_plan k.depth (range_of k n) (turned_round dir) w.old) n (store_of after t)) (sym number) (lists.each t below);
-              says = subst (λ n. TreeSays k w.old n (AfterFirst w every_leaf) (copies (store_of after t).lanes.input)) (sym number) (says t);
+              says = subst (λ n. TreeSays k w.old n (AfterFirst k w) (copies (store_of after t).lanes.input)) (sym number) (says t);
             };
       }

@@ -55,9 +55,9 @@ all_rows k g f rows fits leaves h = record {
 }
 
 module _ (parts : ℕ) (k : Cuts) (g : Spacetree) (f : States) (step cells : ℕ) (before after : List TreeLists) (old new : List Note) (shown : Shown) (grows : TaleGrows)
-    (at : AreAt parts k before old cells g f) (h : AreShown k parts at.dir g f step k.trees before after old new shown) where
+    (at : AreAt parts k before old cells g f) (h : AreShown k parts at.dir g f step before after old new shown) where
   tales : HaveTales k.trees after new
-  tales = subst (HaveTales k.trees after) (sym h.noted) (tales_grow (note_over (sizes_of k) step kind.Show g) (λ s. refl) grows k.trees before after old at.tales (λ t below. (h.trees.changed t below).tale))
+  tales = subst (HaveTales k.trees after) (sym h.gathered.noted) (tales_grow (note_over (sizes_of k) step kind.Show g) (λ s. refl) grows k.trees before after old at.tales (λ t below. (h.trees.changed t below).tale))
 
   pub still_at : AreAt parts k after new cells g f
   still_at = record {
@@ -66,7 +66,7 @@ module _ (parts : ℕ) (k : Cuts) (g : Spacetree) (f : States) (step cells : ℕ
     field = at.field;
     dir = turned_round at.dir;
     stand = record {
-      count = h.trees.count ∙ at.stand.count;
+      count = h.trees.count;
       each = λ t below.
           let tree = h.trees.changed t below in
           subst (λ n. StandsFor k.depth (range_of k n) n (turned_round at.dir) g f (store_of after t)) tree.number tree.stands.stands;
@@ -79,9 +79,9 @@ module _ (parts : ℕ) (k : Cuts) (g : Spacetree) (f : States) (step cells : ℕ
   -- and what they tell is as it is
   pub told : TellTraffic k g shown.traffic.items
   told = record {
-    count = h.traffic.count;
+    count = h.gathered.traffic.count;
     each = λ t d below.
-        let traffic = h.traffic.each t d below in
+        let traffic = h.gathered.traffic.each t d below in
         record {
           tree = ap (λ (x : Traffic). x.tree) traffic.told;
           amounts = traffic_is_exact k g t (slice_index_or shown.traffic.items t d) at.fits.dim at.few at.room traffic;

@@ -1,8 +1,7 @@
--- The showing sweeps of all trees, tree after tree.
-use Rattle.std.proofs.Common.{◌≡◌, ℕ, ◌+◌, ◌<◌, List, [], ◌∷◌, ◌++◌, length, get_or, refl, ap, sym, subst, ◌∙◌, ⊎_elim, arith}
-use Rattle.std.specs.Prelude.{slice_set}
+-- The showing sweeps of all trees, and what they gather, tree after tree.
+use Rattle.std.proofs.Common.{◌≡◌, ℕ, ◌+◌, ◌<◌, List, [], ◌∷◌, ◌++◌, length, map, get_or, refl, ap, sym, subst, ◌∙◌, ⊎_elim, arith}
 use Rattle.std.proofs.lemmas.Bool.{cases_eq}
-use Rattle.std.proofs.lemmas.List.{append-nil, length-append, length-set, get_or_append_left, get_or_push, get_or-set_same, get_or-set_other}
+use Rattle.std.proofs.lemmas.List.{append-nil, length-append, get_or_append_left, get_or_push}
 use Rattle.stack_law.proofs.Distinct.{in_either}
 use Rattle.peano_keys.specs.Grid.{Spacetree}
 use Rattle.peano_keys.specs.Field.{States}
@@ -16,32 +15,21 @@ use Rattle.vertex_stacks.specs.Notes.{Note}
 use Rattle.vertex_stacks.specs.Tales.{with_note}
 use Rattle.tree_automaton.specs.TreeLists.{TreeLists}
 use Rattle.step_world.specs.Notes.{note_over}
-use Rattle.step_sweeps.specs.Sweeps.{StandsOn}
 use Rattle.showing_sweep.specs.declared.shown.Shown.{Shown as ShownTree}
 use Rattle.showing_sweep.specs.Counts.{ListsAll}
 use Rattle.showing_sweep.specs.Shown.{IsRowOf, IsTraffic}
 use Rattle.showing_sweep.specs.Sweeps.{IsShownTree}
 use Rattle.stack_law.proofs.Chains.{in_left, in_right}
 use Rattle.showing_sweep.proofs.Found.{none_twice_in_both}
-use Rattle.step_driver.specs.declared.showing.Shown.{Shown}
 use Rattle.step_driver.specs.Computing.{AllStandOn}
 use Rattle.step_driver.specs.Notes.{sizes_of}
-use Rattle.step_driver.specs.Showing.{IsShownAt, IsShownStore, IsRowOfFirst, AreTraffic, AreShown}
-use Rattle.step_driver.specs.Stores.{no_store, store_of, ChangesTree}
-use Rattle.step_driver.proofs.Changes.{none_changed, one_more}
+use Rattle.step_driver.specs.Showing.{ShowsTree, IsShownStore, IsRowOfFirst, AreTraffic, GatheredFirst}
+use Rattle.step_driver.specs.declared.beside.Swept.{Swept}
+use Rattle.step_driver.specs.Gives.{EachGives}
+use Rattle.step_driver.specs.Stores.{store_of, ChangesEach}
+use Rattle.step_driver.proofs.Gives.{each_changes}
 use Rattle.step_driver.proofs.Counts.{note_plain}
 use Rattle.step_driver.proofs.Notes.{one_noted}
-
--- one tree's sweep, in the list of all stores
-pub shown_at : (k : Cuts) (step t : ℕ) (before : List TreeLists) (x y : TreeLists) (note : Note) (shown : ShownTree) → t < length before → x ≡ store_of before t →
-    ((parts : ℕ) (dir : Direction) (g : Spacetree) (f : States) → StandsOn k parts dir g f x → IsShownTree k parts dir g f step x y note shown) → IsShownAt k step t before (slice_set before t y) note shown
-shown_at k step t before x y note shown inside is swept = record {
-  count = length-set before t y;
-  swept = λ parts dir g f stands.
-      subst (λ z. IsShownTree k parts dir g f step (store_of before t) z note shown) (sym (get_or-set_same before t y no_store inside))
-      (subst (λ z. IsShownTree k parts dir g f step z y note shown) is (swept parts dir g f (subst (StandsOn k parts dir g f) (sym is) stands)));
-  others = λ s apart. get_or-set_other before t s y no_store apart;
-}
 
 module _ (k : Cuts) (parts : ℕ) (dir : Direction) (g : Spacetree) (f : States) (step : ℕ) where
   -- rows of one tree more
@@ -78,13 +66,12 @@ module _ (k : Cuts) (parts : ℕ) (dir : Direction) (g : Spacetree) (f : States)
         (cases_eq t m);
   }
 
-  -- to begin with nothing is shown
-  pub none_shown : (before : List TreeLists) (old : List Note) (shown : Shown) → shown.rows.items ≡ [] → shown.traffic.items ≡ [] → AreShown k parts dir g f step 0 before before old old shown
-  none_shown before old shown rows traffic = record {
-    trees = none_changed (IsShownStore k parts dir g f step) before;
+  -- to begin with nothing is gathered
+  pub none_shown : (old : List Note) → GatheredFirst k g f step 0 old old [] []
+  none_shown old = record {
     noted = sym (append-nil old);
-    rows = subst (ListsAll (IsRowOfFirst k g f 0)) (sym rows) (record { once = tt; members = λ r. ((λ h. absurd h), (λ q. let below = q.1 in absurd (omega (arith, below)))) });
-    traffic = subst (AreTraffic k g 0) (sym traffic) (record { count = refl; each = λ t d below. absurd (omega (arith, below)) });
+    rows = record { once = tt; members = λ r. ((λ h. absurd h), (λ q. let below = q.1 in absurd (omega (arith, below)))) };
+    traffic = record { count = refl; each = λ t d below. absurd (omega (arith, below)) };
   }
 
   abbrev mine : ℕ → Note
@@ -99,7 +86,7 @@ module _ (k : Cuts) (parts : ℕ) (dir : Direction) (g : Spacetree) (f : States)
 
   gives_own : (x y : TreeLists) (note : Note) (shown : ShownTree) → IsCutGrid k g → IsShownTree k parts dir g f step x y note shown → GivesShown x.tree x y note shown
   gives_own x y note shown fits h =
-      let noted : note ≡ mine x.tree = h.noted.note_is ∙ note_plain k g dir kind.Show step x.tree fits in
+      let noted : note ≡ mine x.tree = h.noted.counts ∙ note_plain k g dir kind.Show step x.tree fits in
       record {
         tree = record { number = h.tree; stands = h.stands; tale = h.noted.tale ∙ ap (with_note x.lanes.tale) noted };
         note_is = noted;
@@ -107,18 +94,20 @@ module _ (k : Cuts) (parts : ℕ) (dir : Direction) (g : Spacetree) (f : States)
         traffic = h.traffic;
       }
 
-  -- and then one more
-  pub shown_more : (m : ℕ) (before now new : List TreeLists) (old notes : List Note) (note : Note) (so_far after : Shown) (shown : ShownTree) → AllStandOn k parts dir g f before → m < k.trees → AreShown k parts dir g f step m before now old notes so_far →
-      IsShownAt k step m now new note shown → after.rows.items ≡ so_far.rows.items ++ shown.rows.items → after.traffic.items ≡ so_far.traffic.items ++ shown.traffic ∷ [] → AreShown k parts dir g f step (m + 1) before new old (notes ++ note ∷ []) after
-  shown_more m before now new old notes note so_far after shown all below h at rows traffic =
-      let was = h.trees.others m (omega arith) in
-      let number : (store_of now m).tree ≡ m = ap (λ (s : TreeLists). s.tree) was ∙ all.number m below in
-      let stands = subst (StandsOn k parts dir g f) (sym was) (all.each m below) in
-      let gives : GivesShown m (store_of now m) (store_of new m) note shown = subst (λ n. GivesShown n (store_of now m) (store_of new m) note shown) number (gives_own (store_of now m) (store_of new m) note shown all.grid (at.swept parts dir g f stands)) in
-      let one : ChangesTree (IsShownStore k parts dir g f step) m now new = record { count = at.count; changed = gives.tree; others = at.others } in
+  gives_at : (before : List TreeLists) (m : ℕ) (r : Swept ShownTree) → AllStandOn k parts dir g f before → m < k.trees → ShowsTree k step (store_of before m) r → GivesShown m (store_of before m) r.store r.note r.found
+  gives_at before m r all below shows = subst (λ n. GivesShown n (store_of before m) r.store r.note r.found) (all.number m below) (gives_own (store_of before m) r.store r.note r.found all.grid (shows parts dir g f (all.each m below)))
+
+  -- the stores of all trees
+  pub stores_shown : (before after : List TreeLists) (swept : List (Swept ShownTree)) → AllStandOn k parts dir g f before → EachGives (ShowsTree k step) before swept → after ≡ map (λ (r : Swept ShownTree). r.store) swept → ChangesEach (IsShownStore k parts dir g f step) k.trees before after
+  stores_shown before after swept all gives is = each_changes (ShowsTree k step) (IsShownStore k parts dir g f step) (λ (r : Swept ShownTree). r.store) k.trees before after swept all.count gives is (λ t r below shows. (gives_at before t r all below shows).tree)
+
+  -- and what one tree more shows
+  pub shown_more : (m : ℕ) (before : List TreeLists) (old notes : List Note) (rows : List Row) (traffic : List Traffic) (r : Swept ShownTree) → AllStandOn k parts dir g f before → m < k.trees → GatheredFirst k g f step m old notes rows traffic → ShowsTree k step (store_of before m) r →
+      GatheredFirst k g f step (m + 1) old (notes ++ r.note ∷ []) (rows ++ r.found.rows.items) (traffic ++ r.found.traffic ∷ [])
+  shown_more m before old notes rows traffic r all below h shows =
+      let gives = gives_at before m r all below shows in
       record {
-        trees = one_more (IsShownStore k parts dir g f step) m before now new h.trees one;
-        noted = ap (λ (xs : List Note). xs ++ note ∷ []) h.noted ∙ one_noted mine m old note gives.note_is;
-        rows = subst (ListsAll (IsRowOfFirst k g f (m + 1))) (sym rows) (rows_more m so_far.rows.items shown.rows.items all.grid h.rows gives.rows);
-        traffic = subst (AreTraffic k g (m + 1)) (sym traffic) (traffic_more m so_far.traffic.items shown.traffic h.traffic gives.traffic);
+        noted = ap (λ (xs : List Note). xs ++ r.note ∷ []) h.noted ∙ one_noted mine m old r.note gives.note_is;
+        rows = rows_more m rows r.found.rows.items all.grid h.rows gives.rows;
+        traffic = traffic_more m traffic r.found.traffic h.traffic gives.traffic;
       }

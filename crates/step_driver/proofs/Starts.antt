@@ -1,8 +1,7 @@
 -- The trees of a world as it starts.
-use Rattle.std.proofs.Common.{◌≡◌, ℕ, ◌+◌, ◌<◌, true, List, [], ◌∷◌, ◌++◌, length, refl, ap, ap₂, sym, subst, ◌∙◌, ⊎_elim, arith}
-use Rattle.std.specs.Prelude.{pos}
-use Rattle.std.proofs.lemmas.Bool.{cases_eq}
-use Rattle.std.proofs.lemmas.List.{length-append, get_or_append_left, get_or_push}
+use Rattle.std.proofs.Common.{◌≡◌, ℕ, ◌<◌, true, List, [], length, map, refl, ap, sym, subst, ◌∙◌, arith}
+use Rattle.std.specs.Prelude.{pos, Result, Ok, slice_index_or}
+use Rattle.std.proofs.lemmas.List.{get_or-map, length-map}
 use Rattle.peano_keys.specs.declared.dim.Dim.{Dim}
 use Rattle.peano_keys.specs.Grid.{Spacetree}
 use Rattle.peano_keys.specs.Field.{States, value_of}
@@ -20,12 +19,14 @@ use Rattle.boundary_streams.specs.Trees.{copies_of}
 use Rattle.adapt_sweep.specs.Raising.{CanBeRaised, IsRaisedTree}
 use Rattle.step_world.specs.Notes.{note_raised, by_trees}
 use Rattle.step_world.proofs.Worlds.{start_stands}
+use Rattle.step_driver.specs.declared.beside.Swept.{Swept}
 use Rattle.step_driver.specs.Stores.{no_store, store_of, AllMerged, AllHaveLists}
 use Rattle.step_driver.specs.Notes.{sizes_of, HaveTales}
-use Rattle.step_driver.specs.Starts.{IsRaisedStore, IsRaisedWith, AreRaised, AreStarted}
+use Rattle.step_driver.specs.Starts.{IsRaisedStore, IsRaisedWith, MayBeRaised, AreRaised, AreStarted}
+use Rattle.step_driver.proofs.Gives.{all_there, one_there, some_item}
 use Rattle.step_driver.proofs.Counts.{note_raising}
 use Rattle.step_driver.proofs.Exchanges.{lists_after, owners_taken, tale_stays}
-use Rattle.step_driver.proofs.Notes.{next, tales_grow}
+use Rattle.step_driver.proofs.Notes.{tales_grow}
 use Rattle.step_driver.proofs.Standing.{all_stand}
 
 -- a store as it is made
@@ -58,25 +59,30 @@ can_be_raised k g t s fits below is = subst (CanBeRaised k g) (sym is) (record {
 })
 
 -- and then stands as one that is raised
-pub raised_store : (k : Cuts) (g : Spacetree) (f : States) (t : ℕ) (s u : TreeLists) (note : Note) → IsCutGrid k g → s ≡ new_store k.dim k.depth (range_of k t) t → IsRaisedTree k g f 0 s u note → IsRaisedWith k g f t u note
-raised_store k g f t s u note fits is h =
-    let raised : IsRaisedTree k g f 0 (new_store k.dim k.depth (range_of k t) t) u note = subst (λ z. IsRaisedTree k g f 0 z u note) is h in
-    let noted : note ≡ note_raised (sizes_of k) g t = raised.noted.counts ∙ note_raising k g t fits in
+pub raised_store : (k : Cuts) (g : Spacetree) (f : States) (t : ℕ) (s : TreeLists) (r : Swept Unit) → IsCutGrid k g → s ≡ new_store k.dim k.depth (range_of k t) t → IsRaisedTree k g f 0 s r.store r.note → IsRaisedWith k g f t r
+raised_store k g f t s r fits is h =
+    let raised : IsRaisedTree k g f 0 (new_store k.dim k.depth (range_of k t) t) r.store r.note = subst (λ z. IsRaisedTree k g f 0 z r.store r.note) is h in
+    let noted : r.note ≡ note_raised (sizes_of k) g t = raised.noted.counts ∙ note_raising k g t fits in
     record { store = record { lists = raised.lists; slots = raised.slots; tale = raised.noted.tale ∙ ap (with_note no_tale) noted }; noted = noted }
 
--- one more raised tree
-pub raised_more : (k : Cuts) (g : Spacetree) (f : States) (n : ℕ) (stores : List TreeLists) (notes : List Note) (s : TreeLists) (note : Note) → AreRaised k g f n stores notes → IsRaisedWith k g f n s note → AreRaised k g f (n + 1) (stores ++ s ∷ []) (notes ++ note ∷ [])
-raised_more k g f n stores notes s note h new = record {
-  count = length-append stores (s ∷ []) ∙ ap (λ m. m + 1) h.count;
-  each = λ t below. ⊎_elim
-      (λ e. subst (λ m. IsRaisedStore k g f m (store_of (stores ++ s ∷ []) m)) (sym e) (subst (IsRaisedStore k g f n) (sym (get_or_push stores s no_store n h.count)) new.store))
-      (λ apart.
-      let inside : t < n = omega (arith, below, apart) in
-      let there : t < length stores = omega (arith, inside, h.count) in
-      subst (IsRaisedStore k g f t) (sym (get_or_append_left stores (s ∷ []) no_store t there)) (h.each t inside))
-      (cases_eq t n);
-  noted = ap₂ (λ (xs : List Note) (x : Note). xs ++ x ∷ []) h.noted new.noted ∙ ap (λ m. by_trees m (note_raised (sizes_of k) g)) (next n);
-}
+module _ {E : Type 0} (k : Cuts) (g : Spacetree) (f : States) (given : List (Result (Swept Unit) E)) (swept : List (Swept Unit)) (may : MayBeRaised k g f given) (is : given ≡ map Ok swept) where
+  pub raised_at : (t : ℕ) (e : Swept Unit) → t < k.trees → IsRaisedWith k g f t (slice_index_or swept t e)
+  raised_at t e below =
+      let count = all_there given swept k.trees is may.count in
+      one_there (IsRaisedWith k g f t) given swept t e is (omega (arith, below, count)) (may.each t (Ok e) below)
+
+  -- all trees are raised
+  pub all_raised : (stores : List TreeLists) (notes : List Note) → stores ≡ map (λ (r : Swept Unit). r.store) swept → notes ≡ by_trees k.trees (note_raised (sizes_of k) g) → AreRaised k g f k.trees stores notes
+  all_raised stores notes are noted =
+      let count = all_there given swept k.trees is may.count in
+      record {
+        count = ap length are ∙ length-map swept (λ (r : Swept Unit). r.store) ∙ count;
+        each = λ t below.
+            let there : t < length swept = omega (arith, below, count) in
+            let e = some_item swept t there in
+            subst (IsRaisedStore k g f t) (sym (ap (λ xs. store_of xs t) are ∙ get_or-map (λ (r : Swept Unit). r.store) swept t e no_store there)) (raised_at t e below).store;
+        noted = noted;
+      }
 
 module _ (k : Cuts) (g : Spacetree) (f : States) (stores : List TreeLists) (notes : List Note) (fits : IsCutGrid k g) (field : HasLeaves g f) (grows : TaleGrows) (h : AreRaised k g f k.trees stores notes) where
   pub raised_lists : AllHaveLists k Backward g stores

@@ -25,14 +25,13 @@ use Rattle.step_values.proofs.Centres.{step_takes_centre}
 use Rattle.swept_slots.proofs.Stores.{said_is_before}
 use Rattle.boundary_streams.specs.Trees.{copies_of}
 use Rattle.step_sweeps.specs.Kernels.{Kernel, IsChangeBy}
-use Rattle.step_sweeps.specs.Primaries.{every_leaf}
 use Rattle.step_sweeps.specs.Sweeps.{IsToFinish}
 use Rattle.step_world.specs.Notes.{by_trees, computing_notes, note_over, note_adapted}
 use Rattle.step_world.specs.Steps.{KeepsParts}
 use Rattle.step_world.specs.Worlds.{StandFor, KeepsAll, RefinesAbove}
 use Rattle.step_world.proofs.Parts.{step_keeps_parts}
 use Rattle.step_world.proofs.Worlds.{deep_grid, kept_grid_stays, step_stands, plain_step_stands}
-use Rattle.step_driver.specs.declared.stepping.Findings.{Findings}
+use Rattle.step_driver.specs.declared.finishing.Findings.{Findings}
 use Rattle.step_driver.specs.Stores.{store_of, AllHaveLists}
 use Rattle.step_driver.specs.Notes.{sizes_of, HaveTales}
 use Rattle.step_driver.specs.Computing.{AllStandOn}
@@ -67,22 +66,22 @@ module _ (kernel : Kernel) (k : Cuts) (g : Spacetree) (f : States) (step : ℕ) 
   to_finish : IsToFinish w f
   to_finish = record { values = λ c. refl; grid = is.grid; centres = step_takes_centre kernel.updated kernel.marked g f later field (deep_grid k g at.fits) is }
 
-  are_marked : AllMarked k swept_dir w f h.marked
-  are_marked = marked kernel k at.dir w f step at.fits by to_finish before h.swept old h.noted found.failing all h.primary h.marked h.first
+  are_marked : AllMarked kernel k swept_dir w f h.marked
+  are_marked = marked kernel k at.dir w f step at.fits by to_finish before h.swept old h.noted h.early all h.primary h.marked h.first
 
-  finished : AreFinished k swept_dir w step k.trees h.marked h.finished h.noted new found.turnover
+  finished : AreFinished k swept_dir w step h.marked h.finished h.noted new h.late
   finished = h.secondary w are_marked
 
   swept_lists : AllHaveLists k swept_dir g h.swept
-  swept_lists = computed_lists kernel k at.dir w f step at.fits by to_finish before h.swept old h.noted found.failing all h.primary
+  swept_lists = computed_lists kernel k at.dir w f step at.fits by to_finish before h.swept old h.noted h.early all h.primary
 
   lists : AllHaveLists k dir g h.finished
-  lists = finished_lists k swept_dir w f step h.marked h.finished h.noted new found.turnover are_marked finished
+  lists = finished_lists k swept_dir w step h.marked h.finished h.noted new h.late finished
 
   pub after_lists : AllHaveLists k dir g after
   after_lists = lists_after Second k dir g h.finished after lists h.second
 
-  moves : Steps k w every_leaf (copies_of (store_of before)) (copies_of (store_of h.swept)) (copies_of (store_of h.marked)) (copies_of (store_of h.finished)) (copies_of (store_of after))
+  moves : Steps k w (copies_of (store_of before)) (copies_of (store_of h.swept)) (copies_of (store_of h.marked)) (copies_of (store_of h.finished)) (copies_of (store_of after))
   moves = record {
     primary = λ t v has. (h.primary.trees.changed t has.corner.tree).slots w by v has;
     first = owners_taken First k swept_dir g h.swept h.marked at.fits swept_lists h.first;
@@ -100,15 +99,15 @@ module _ (kernel : Kernel) (k : Cuts) (g : Spacetree) (f : States) (step : ℕ) 
   secondary_notes = by_trees k.trees (note_over (sizes_of k) step Secondary g)
 
   computing_noted : new ≡ old ++ computing_notes (sizes_of k) k.trees step g
-  computing_noted = both_noted old h.noted new primary_notes secondary_notes h.primary.noted finished.noted
+  computing_noted = both_noted old h.noted new primary_notes secondary_notes h.primary.told.noted finished.counted.noted
 
   module _ (grows : TaleGrows) where
     swept_tales : HaveTales k.trees h.swept h.noted
-    swept_tales = subst (HaveTales k.trees h.swept) (sym h.primary.noted)
+    swept_tales = subst (HaveTales k.trees h.swept) (sym h.primary.told.noted)
         (tales_grow (note_over (sizes_of k) step Primary g) (λ s. refl) grows k.trees before h.swept old at.tales (λ t below. (h.primary.trees.changed t below).tale))
 
     finished_tales : HaveTales k.trees h.finished new
-    finished_tales = subst (HaveTales k.trees h.finished) (sym finished.noted)
+    finished_tales = subst (HaveTales k.trees h.finished) (sym finished.counted.noted)
         (tales_grow (note_over (sizes_of k) step Secondary g) (λ s. refl) grows k.trees h.marked h.finished h.noted
         (λ t below. tale_stays First k h.swept h.marked t below h.first ∙ swept_tales t below) (λ t below. (finished.trees.changed t below).tale))
 
@@ -129,7 +128,7 @@ module _ (kernel : Kernel) (k : Cuts) (g : Spacetree) (f : States) (step : ℕ) 
             field = step_keeps_parts kernel.parts kernel.updated kernel.marked g f later field (deep_grid k g at.fits) at.field parts is;
             dir = dir;
             stand = all_stand k dir later field after (subst (λ t. AllHaveLists k dir t after) (sym same) after_lists)
-                (plain_step_stands kernel.updated kernel.marked k g f later field every_leaf (copies_of (store_of before)) (copies_of (store_of h.swept)) (copies_of (store_of h.marked)) (copies_of (store_of h.finished)) (copies_of (store_of after)) stands_before keeps is moves);
+                (plain_step_stands kernel.updated kernel.marked k g f later field (copies_of (store_of before)) (copies_of (store_of h.swept)) (copies_of (store_of h.marked)) (copies_of (store_of h.finished)) (copies_of (store_of after)) stands_before keeps is moves);
             tales = tales;
             counted = counted;
             room = room;
@@ -171,7 +170,7 @@ module _ (kernel : Kernel) (k : Cuts) (g : Spacetree) (f : States) (step : ℕ) 
     new_lists = adapted_lists k dir w step after a.adapted new noted can_adapt a.sweeps
 
     last_stand : RefinesAbove kernel.marked k.depth → StandFor k (copies_of (store_of last)) later field
-    last_stand deep = step_stands kernel.updated kernel.marked k g f later field every_leaf (copies_of (store_of before)) (copies_of (store_of h.swept)) (copies_of (store_of h.marked)) (copies_of (store_of h.finished)) (copies_of (store_of after))
+    last_stand deep = step_stands kernel.updated kernel.marked k g f later field (copies_of (store_of before)) (copies_of (store_of h.swept)) (copies_of (store_of h.marked)) (copies_of (store_of h.finished)) (copies_of (store_of after))
         (copies_of (store_of a.adapted)) (copies_of (store_of last)) stands_before deep is moves
         (λ t v has. (a.sweeps.trees.changed t has.corner.tree).slots v has) (owners_taken Third k (turned_round dir) later a.adapted last fits new_lists a.third)
 

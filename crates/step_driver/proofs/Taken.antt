@@ -21,7 +21,8 @@ use Rattle.step_world.specs.Notes.{by_trees, computing_notes, note_over, note_ad
 use Rattle.step_world.specs.Worlds.{RefinesAbove}
 use Rattle.spacetree.proofs.Exists.{step_exists}
 use Rattle.step_world.proofs.Worlds.{deep_grid, next_is_cut}
-use Rattle.step_driver.specs.declared.stepping.Findings.{Findings}
+use Rattle.step_driver.specs.declared.finishing.Findings.{Findings}
+use Rattle.step_driver.specs.declared.stepping.Stepped.{Stepped}
 use Rattle.step_driver.specs.Notes.{sizes_of, AddsFirst}
 use Rattle.step_driver.specs.Computing.{AllStandOn}
 use Rattle.step_driver.specs.Finishing.{AreFinished}
@@ -31,7 +32,8 @@ use Rattle.step_driver.specs.Sizes.{IsTurnover, IsSizeAfter}
 use Rattle.step_driver.specs.Stepping.{IsComputedStep, StoppedStep, IsStepTaken}
 use Rattle.step_driver.specs.Worlds.{AreAt}
 use Rattle.step_driver.proofs.Began.{grid_exists, are_marked, stand_on, both_noted, adds_more, adds_after}
-use Rattle.step_driver.proofs.Refused.{computed_fails, step_fails, step_served}
+use Rattle.step_driver.proofs.Pend.{pending_by}
+use Rattle.step_driver.proofs.Refused.{both_fail, step_fails, step_served}
 use Rattle.step_driver.proofs.Sizes.{turnover_counted}
 
 -- where memory was wanting in the part that computes
@@ -42,10 +44,10 @@ stopped_computing kernel adapts k g f step before old new cells at h =
     (next.0, next.1, adds_more old new (computing_notes (sizes_of k) k.trees step g) (if adapts then by_trees k.trees (note_adapted (sizes_of k) step g next.0) else []) h)
 
 -- so where the answer is that memory was wanting
-pub wants_memory : (kernel : Kernel) (adapts : Bool) (k : Cuts) (g : Spacetree) (f : States) (step : ℕ) (stores : List TreeLists) (old new : List Note) (r : Result ℕ EvalFault) (Q : EvalFault → Type 0) → ((e : EvalFault) → Q e → e ≡ NoMemory) → IsErrAnd r Q →
-    StoppedStep kernel adapts k g f step old new NoMemory → IsStepTaken kernel adapts k g f step stores old new r
-wants_memory kernel adapts k g f step stores old new (Ok cells) Q to h stopped = absurd h
-wants_memory kernel adapts k g f step stores old new (Err e) Q to h stopped = subst (StoppedStep kernel adapts k g f step old new) (sym (to e h)) stopped
+pub wants_memory : (kernel : Kernel) (adapts : Bool) (k : Cuts) (g : Spacetree) (f : States) (step : ℕ) (old new : List Note) (r : Result Stepped EvalFault) (Q : EvalFault → Type 0) → ((e : EvalFault) → Q e → e ≡ NoMemory) → IsErrAnd r Q →
+    StoppedStep kernel adapts k g f step old new NoMemory → IsStepTaken kernel adapts k g f step old new r
+wants_memory kernel adapts k g f step old new (Ok cells) Q to h stopped = absurd h
+wants_memory kernel adapts k g f step old new (Err e) Q to h stopped = subst (StoppedStep kernel adapts k g f step old new) (sym (to e h)) stopped
 
 -- a step that is not refused: the next grid and field, for the same trees
 pub record Serves (kernel : Kernel) (k : Cuts) (g : Spacetree) (f : States) (size : ℕ) : Type 0 where
@@ -64,20 +66,22 @@ module _ (kernel : Kernel) (k : Cuts) (g : Spacetree) (f : States) (step : ℕ) 
   abbrev next : Spacetree
   next = (grid_exists kernel k at.dir g f step before all).0
 
-  finished : AreFinished k (turned_round at.dir) (pending kernel g f next) step k.trees h.marked h.finished h.noted new found.turnover
-  finished = h.secondary (pending kernel g f next) (are_marked kernel k at.dir g f step before all h.swept old h.noted found.failing h.primary h.marked h.first)
+  finished : AreFinished k (turned_round at.dir) (pending kernel g f next) step h.marked h.finished h.noted new h.late
+  finished = h.secondary (pending kernel g f next) (are_marked kernel k at.dir g f step before all h.swept old h.noted h.early h.primary h.marked h.first)
 
   pub turnover_is : (dim : Dim) → k.dim ≡ dim → IsTurnover dim cells g (marks_of kernel.marked g f) found.turnover
   turnover_is dim same =
       let counted = at.counted in
       let room = at.room in
-      turnover_counted k g (marks_of kernel.marked g f) found.turnover dim cells at.fits same (sym counted) (omega (arith, counted, room)) finished.splits finished.merges
+      subst (IsTurnover dim cells g (marks_of kernel.marked g f)) (sym h.turnover)
+      (turnover_counted k g (marks_of kernel.marked g f) h.late.turnover dim cells at.fits same (sym counted) (omega (arith, counted, room)) finished.counted.splits finished.counted.merges)
 
   noted : new ≡ old ++ computing_notes (sizes_of k) k.trees step g
-  noted = both_noted old h.noted new (by_trees k.trees (note_over (sizes_of k) step Primary g)) (by_trees k.trees (note_over (sizes_of k) step Secondary g)) h.primary.noted finished.noted
+  noted = both_noted old h.noted new (by_trees k.trees (note_over (sizes_of k) step Primary g)) (by_trees k.trees (note_over (sizes_of k) step Secondary g)) h.primary.told.noted finished.counted.noted
 
   fails : Fails kernel.updated g f found.failing
-  fails = computed_fails kernel k at.dir g f step before h.swept old h.noted found.failing at.fits h.primary
+  fails = subst (Fails kernel.updated g f) (sym h.failing)
+      (both_fail kernel k at.dir (turned_round at.dir) (pending kernel g f next) f step before h.swept h.marked h.finished old h.noted new h.early h.late at.fits (pending_by kernel g f next (deep_grid k g at.fits)) h.primary finished)
 
   module _ (dim : Dim) (same : k.dim ≡ dim) (size : ℕ) (sized : IsSizeAfter dim cells found.turnover size) where
     -- why it is refused

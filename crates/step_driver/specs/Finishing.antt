@@ -1,10 +1,11 @@
--- The secondary sweeps of all trees, one tree after another.
-use Rattle.std.specs.Prelude.{◌≡◌, ◌≢◌, ℕ, ◌<◌, List, ◌++◌, length}
+-- The secondary sweeps of all trees.
+use Rattle.std.specs.Prelude.{◌≡◌, ℕ, ◌<◌, List, ◌++◌, length, Option, Result, IfOk}
 use Rattle.peano_keys.specs.declared.cell.CellKey.{CellKey}
 use Rattle.peano_keys.specs.Field.{States}
 use Rattle.peano_keys.specs.Next.{Splits, Merges}
 use Rattle.peano_curve.specs.declared.order.Direction.{Direction}
 use Rattle.curve_cuts.specs.Cuts.{Cuts, Owns, range_of}
+use Rattle.curve_cuts.specs.Enclave.{IsEnclave}
 use Rattle.vertex_stacks.specs.declared.kind.Kind.TheVariants.{Secondary}
 use Rattle.vertex_stacks.specs.Notes.{Note}
 use Rattle.vertex_stacks.specs.Tales.{capped, with_note}
@@ -18,28 +19,38 @@ use Rattle.step_phases.specs.Sweeps.{IsSwept, SecondaryChanges}
 use Rattle.swept_slots.specs.Copies.{copies}
 use Rattle.spacetree.specs.Counts.{CountsCells}
 use Rattle.step_world.specs.Counts.{total}
+use Rattle.step_world.specs.Failing.{FailsAmong, IsLeastFound}
 use Rattle.step_world.specs.Notes.{note_over, by_trees}
 use Rattle.step_sweeps.specs.declared.tally.Tally.{Tally}
-use Rattle.step_sweeps.specs.Sweeps.{IsMarked, IsSecondarySwept}
-use Rattle.step_driver.specs.declared.finishing.Turnover.{Turnover}
-use Rattle.step_driver.specs.Stores.{store_of, ChangesFirst}
+use Rattle.step_sweeps.specs.Kernels.{Kernel}
+use Rattle.step_sweeps.specs.Sweeps.{IsMarked, CanFinish, IsSecondarySwept}
+use Rattle.step_sweeps.specs.Tasks.{TasksSeen}
+use Rattle.step_driver.specs.declared.finishing.Findings.{Findings}
+use Rattle.step_driver.specs.declared.beside.Swept.{Swept}
+use Rattle.step_driver.specs.Stores.{store_of, ChangesEach}
 use Rattle.step_driver.specs.Notes.{sizes_of}
 
--- the store of each tree has the marks and new values of all leaves for a change, and all are read in one direction
-pub record AllMarked (k : Cuts) (dir : Direction) (w : Change) (f : States) (stores : List TreeLists) : Type 0 where
+-- the store of each tree has the marks of all leaves and the new values of the skeleton leaves for a change by a kernel, and all are read in one direction
+pub record AllMarked (kernel : Kernel) (k : Cuts) (dir : Direction) (w : Change) (f : States) (stores : List TreeLists) : Type 0 where
   pub count : length stores ≡ k.trees
   pub number : (t : ℕ) → t < k.trees → (store_of stores t).tree ≡ t
-  pub each : (t : ℕ) → t < k.trees → IsMarked k dir w f (store_of stores t)
+  pub each : (t : ℕ) → t < k.trees → IsMarked kernel k dir w f (store_of stores t)
 
 -- for some change and field
-abbrev pub AllCanFinish : Cuts → List TreeLists → Type 0
-AllCanFinish k stores = (dir : Direction) × (w : Change) × (f : States) × AllMarked k dir w f stores
+abbrev pub AllCanFinish : Kernel → Cuts → List TreeLists → Type 0
+AllCanFinish kernel k stores = (dir : Direction) × (w : Change) × (f : States) × AllMarked kernel k dir w f stores
 
--- one tree was swept, and the stores of all others are as they were
-pub record IsFinishedAt (k : Cuts) (step t : ℕ) (before after : List TreeLists) (note : Note) (tally : Tally) : Type 0 where
-  pub count : length after ≡ length before
-  pub swept : (dir : Direction) (w : Change) (f : States) → IsMarked k dir w f (store_of before t) → IsSecondarySwept k dir w step (store_of before t) (store_of after t) note tally
-  pub others : (s : ℕ) → s ≢ t → store_of after s ≡ store_of before s
+-- what the secondary sweep of one tree gives, whatever change was marked
+abbrev pub Finishes : Kernel → Cuts → ℕ → TreeLists → Swept Tally → Type 0
+Finishes kernel k step x r = (dir : Direction) (w : Change) (f : States) → IsMarked kernel k dir w f x → IsSecondarySwept k dir w step x r.store r.note r.found
+
+-- a tree that can be swept, with tasks of a solver
+abbrev pub CanFinishJob : {S : Type 0} → Kernel → Cuts → S → TreeLists × TasksSeen S → Type 0
+CanFinishJob kernel k solver job = CanFinish kernel k job.0 × (job.1.solver ≡ solver)
+
+-- what its secondary sweep gives
+abbrev pub FinishesJob : {S E : Type 0} → Kernel → Cuts → ℕ → TreeLists × TasksSeen S → Result (Swept Tally) E → Type 0
+FinishesJob kernel k step job r = IfOk r (Finishes kernel k step job.0)
 
 -- what a secondary sweep makes of the store of a tree: it has the same lists, read the other way; each cell of the tree's own has its new value and its intent
 -- in the tree's copies; and the tale has one note more
@@ -55,9 +66,16 @@ pub record CountsFirst (k : Cuts) (P : CellKey → Type 0) (m n : ℕ) : Type 0 
   pub each : (t : ℕ) → t < m → CountsCells (λ c. Owns k t c × P c) (counts t)
   pub told : n ≡ capped (total m counts)
 
--- so the stores of the first trees; their notes, and how many of their cells split and merge
-pub record AreFinished (k : Cuts) (dir : Direction) (w : Change) (step m : ℕ) (before after : List TreeLists) (old new : List Note) (turnover : Turnover) : Type 0 where
-  pub trees : ChangesFirst (IsFinishedTree k dir w step) m before after
+-- the notes of the first trees, the least of the enclave leaves that fail in them, and how many of their cells split and merge
+pub record CountedFirst (k : Cuts) (w : Change) (step m : ℕ) (old new : List Note) (found : Findings) : Type 0 where
   pub noted : new ≡ old ++ by_trees m (note_over (sizes_of k) step Secondary w.old)
-  pub splits : CountsFirst k (Splits w.old w.mark) m turnover.splits
-  pub merges : CountsFirst k (Merges w.old w.mark) m turnover.merges
+  pub splits : CountsFirst k (Splits w.old w.mark) m found.turnover.splits
+  pub merges : CountsFirst k (Merges w.old w.mark) m found.turnover.merges
+  pub failing : ℕ → Option CellKey
+  pub tells : (t : ℕ) → t < m → FailsAmong (IsEnclave k w.old t) w.next (failing t)
+  pub least : IsLeastFound m failing found.failing
+
+-- the stores of all trees were swept; their notes, the least of the enclave leaves that fail, and how many cells split and merge
+pub record AreFinished (k : Cuts) (dir : Direction) (w : Change) (step : ℕ) (before after : List TreeLists) (old new : List Note) (found : Findings) : Type 0 where
+  pub trees : ChangesEach (IsFinishedTree k dir w step) k.trees before after
+  pub counted : CountedFirst k w step k.trees old new found

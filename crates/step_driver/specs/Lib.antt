@@ -1,10 +1,12 @@
 pub mod Stores
 pub mod Along
+pub mod Gives
 pub mod Boxes
 pub mod Notes
 pub mod Worlds
 pub mod LeafCounts
 pub mod Starts
+pub mod Tasking
 pub mod Computing
 pub mod Finishing
 pub mod Pending

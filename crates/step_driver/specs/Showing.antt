@@ -1,5 +1,5 @@
--- The showing sweeps of all trees, one tree after another, and what a world shows.
-use Rattle.std.specs.Prelude.{◌≡◌, ◌≢◌, ℕ, ◌<◌, false, List, ◌++◌, length, slice_index_or, Some, Result, Ok, Err}
+-- The showing sweeps of all trees, and what a world shows.
+use Rattle.std.specs.Prelude.{◌≡◌, ℕ, ◌<◌, false, List, ◌++◌, length, slice_index_or, Some, Result, Ok, Err}
 use Rattle.std.specs.FinMap as fin
 use Rattle.peano_keys.specs.Grid.{Spacetree}
 use Rattle.peano_keys.specs.Field.{States}
@@ -23,14 +23,13 @@ use Rattle.showing_sweep.specs.Laws.{amounts_in}
 use Rattle.showing_sweep.specs.Sweeps.{IsShownTree}
 use Rattle.step_driver.specs.declared.showing.Shown.{Shown}
 use Rattle.step_driver.specs.Notes.{sizes_of, AddsFirst}
-use Rattle.step_driver.specs.Stores.{store_of, ChangesFirst}
+use Rattle.step_driver.specs.declared.beside.Swept.{Swept}
+use Rattle.step_driver.specs.Stores.{ChangesEach}
 use Rattle.step_driver.specs.Worlds.{AreAt, Seen, IsAt}
 
--- one tree was shown, and the stores of all others are as they were
-pub record IsShownAt (k : Cuts) (step t : ℕ) (before after : List TreeLists) (note : Note) (shown : ShownTree) : Type 0 where
-  pub count : length after ≡ length before
-  pub swept : (parts : ℕ) (dir : Direction) (g : Spacetree) (f : States) → StandsOn k parts dir g f (store_of before t) → IsShownTree k parts dir g f step (store_of before t) (store_of after t) note shown
-  pub others : (s : ℕ) → s ≢ t → store_of after s ≡ store_of before s
+-- what the showing sweep of one tree gives, whatever its store stood for
+abbrev pub ShowsTree : Cuts → ℕ → TreeLists → Swept ShownTree → Type 0
+ShowsTree k step x r = (parts : ℕ) (dir : Direction) (g : Spacetree) (f : States) → StandsOn k parts dir g f x → IsShownTree k parts dir g f step x r.store r.note r.found
 
 -- what a showing sweep makes of the store of a tree: it stands for the same grid and field, read the other way, and the tale has one note more
 pub record IsShownStore (k : Cuts) (parts : ℕ) (dir : Direction) (g : Spacetree) (f : States) (step t : ℕ) (before after : TreeLists) : Type 0 where
@@ -47,12 +46,16 @@ pub record AreTraffic (k : Cuts) (g : Spacetree) (m : ℕ) (list : List Traffic)
   pub count : length list ≡ m
   pub each : (t : ℕ) (d : Traffic) → t < m → IsTraffic k g t (slice_index_or list t d)
 
--- so the stores of the first trees; their notes, the rows of their leaves, each once, and their traffic
-pub record AreShown (k : Cuts) (parts : ℕ) (dir : Direction) (g : Spacetree) (f : States) (step m : ℕ) (before after : List TreeLists) (old new : List Note) (shown : Shown) : Type 0 where
-  pub trees : ChangesFirst (IsShownStore k parts dir g f step) m before after
+-- the notes of the first trees, the rows of their leaves, each once, and their traffic
+pub record GatheredFirst (k : Cuts) (g : Spacetree) (f : States) (step m : ℕ) (old new : List Note) (row_list : List Row) (traffic_list : List Traffic) : Type 0 where
   pub noted : new ≡ old ++ by_trees m (note_over (sizes_of k) step kind.Show g)
-  pub rows : ListsAll (IsRowOfFirst k g f m) shown.rows.items
-  pub traffic : AreTraffic k g m shown.traffic.items
+  pub rows : ListsAll (IsRowOfFirst k g f m) row_list
+  pub traffic : AreTraffic k g m traffic_list
+
+-- the stores of all trees were swept; their notes, the rows of all leaves and the traffic of each
+pub record AreShown (k : Cuts) (parts : ℕ) (dir : Direction) (g : Spacetree) (f : States) (step : ℕ) (before after : List TreeLists) (old new : List Note) (shown : Shown) : Type 0 where
+  pub trees : ChangesEach (IsShownStore k parts dir g f step) k.trees before after
+  pub gathered : GatheredFirst k g f step k.trees old new shown.rows.items shown.traffic.items
 
 -- rows are those of a field, each once, in some order
 abbrev pub AreRowsOf : States → List Row → Type 0
@@ -98,6 +101,6 @@ pub record IsNotShown {S : Type 0} (g : Spacetree) (before after : Seen S) : Typ
   pub noted : AddsFirst before.notes after.notes (by_trees (cuts_of before.keys).trees (note_over (sizes_of (cuts_of before.keys)) before.step kind.Show g))
 
 -- one of both, by the answer
-abbrev pub Shows : {S E : Type 0} → ℕ → Spacetree → States → Seen S → Seen S → Result Shown E → Type 0
-Shows parts g f before after (Ok shown) = IsShown parts g f before after shown
-Shows parts g f before after (Err e) = IsNotShown g before after
+abbrev pub ShowsWorld : {S E : Type 0} → ℕ → Spacetree → States → Seen S → Seen S → Result Shown E → Type 0
+ShowsWorld parts g f before after (Ok shown) = IsShown parts g f before after shown
+ShowsWorld parts g f before after (Err e) = IsNotShown g before after

@@ -1,5 +1,5 @@
 -- How a world starts.
-use Rattle.std.specs.Prelude.{◌≡◌, ℕ, ◌<◌, ◌≤◌, List, length}
+use Rattle.std.specs.Prelude.{◌≡◌, ℕ, ◌<◌, ◌≤◌, List, length, slice_index_or, Result, IfOk}
 use Rattle.peano_keys.specs.declared.cell.CellKey.{CellKey}
 use Rattle.peano_keys.specs.Grid.{Spacetree, IsGrid}
 use Rattle.peano_keys.specs.Field.{States, value_of}
@@ -14,6 +14,7 @@ use Rattle.tree_automaton.specs.AtRest.{HasLists, plain_plan}
 use Rattle.step_phases.specs.Sweeps.{IsRaised}
 use Rattle.swept_slots.specs.Copies.{copies}
 use Rattle.step_world.specs.Notes.{note_raised, by_trees}
+use Rattle.step_driver.specs.declared.beside.Swept.{Swept}
 use Rattle.step_driver.specs.Stores.{store_of, AllStandFor}
 use Rattle.step_driver.specs.Notes.{sizes_of, HaveTales}
 
@@ -32,9 +33,14 @@ pub record IsRaisedStore (k : Cuts) (g : Spacetree) (f : States) (t : ℕ) (s : 
   pub tale : s.lanes.tale ≡ with_note no_tale (note_raised (sizes_of k) g t)
 
 -- with its note
-pub record IsRaisedWith (k : Cuts) (g : Spacetree) (f : States) (t : ℕ) (s : TreeLists) (note : Note) : Type 0 where
-  pub store : IsRaisedStore k g f t s
-  pub noted : note ≡ note_raised (sizes_of k) g t
+pub record IsRaisedWith (k : Cuts) (g : Spacetree) (f : States) (t : ℕ) (r : Swept Unit) : Type 0 where
+  pub store : IsRaisedStore k g f t r.store
+  pub noted : r.note ≡ note_raised (sizes_of k) g t
+
+-- each tree is raised, unless it was refused memory
+pub record MayBeRaised {E : Type 0} (k : Cuts) (g : Spacetree) (f : States) (given : List (Result (Swept Unit) E)) : Type 0 where
+  pub count : length given ≡ k.trees
+  pub each : (t : ℕ) (e : Result (Swept Unit) E) → t < k.trees → IfOk (slice_index_or given t e) (IsRaisedWith k g f t)
 
 -- the first trees are raised, and so they note
 pub record AreRaised (k : Cuts) (g : Spacetree) (f : States) (trees : ℕ) (stores : List TreeLists) (notes : List Note) : Type 0 where

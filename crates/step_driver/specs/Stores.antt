@@ -1,5 +1,5 @@
 -- The stores of all trees, by number.
-use Rattle.std.specs.Prelude.{◌≡◌, ◌≢◌, ℕ, ◌<◌, ◌≤◌, false, pos, List, [], length, slice_index_or}
+use Rattle.std.specs.Prelude.{◌≡◌, ℕ, ◌<◌, false, pos, List, [], length, slice_index_or}
 use Rattle.peano_keys.specs.declared.dim.Dim.TheVariants.{Two}
 use Rattle.peano_keys.specs.Grid.{Spacetree}
 use Rattle.peano_keys.specs.Field.{States}
@@ -40,21 +40,14 @@ pub record AreTrees (k : Cuts) (stores : List TreeLists) : Type 0 where
   pub number : (t : ℕ) → t < k.trees → (store_of stores t).tree ≡ t
   pub each : (t : ℕ) → t < k.trees → IsTreeOf k (store_of stores t)
 
--- the store of one tree is changed as asked, and those of all others are as they were
-pub record ChangesTree (R : ℕ → TreeLists → TreeLists → Type 0) (t : ℕ) (before after : List TreeLists) : Type 0 where
-  pub count : length after ≡ length before
-  pub changed : R t (store_of before t) (store_of after t)
-  pub others : (s : ℕ) → s ≢ t → store_of after s ≡ store_of before s
-
--- so are those of the first trees
-pub record ChangesFirst (R : ℕ → TreeLists → TreeLists → Type 0) (m : ℕ) (before after : List TreeLists) : Type 0 where
-  pub count : length after ≡ length before
-  pub changed : (t : ℕ) → t < m → R t (store_of before t) (store_of after t)
-  pub others : (t : ℕ) → m ≤ t → store_of after t ≡ store_of before t
+-- the store of each of so many trees is changed as asked
+pub record ChangesEach (R : ℕ → TreeLists → TreeLists → Type 0) (trees : ℕ) (before after : List TreeLists) : Type 0 where
+  pub count : length after ≡ trees
+  pub changed : (t : ℕ) → t < trees → R t (store_of before t) (store_of after t)
 
 -- all trees merged what the others sent
 pub record AllMerged (phase : Phase) (k : Cuts) (before after : List TreeLists) : Type 0 where
-  pub count : length after ≡ length before
+  pub count : length after ≡ k.trees
   pub each : (t : ℕ) → t < k.trees → HasMerged phase k (store_of before) (store_of after) t
 
 -- the store of each tree has the lists that a sweep of its tree over a grid reads, all in one direction

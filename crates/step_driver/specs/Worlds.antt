@@ -3,6 +3,7 @@ use Rattle.std.specs.Prelude.{◌≡◌, ℕ, ◌≤◌, Bool, true, List}
 use Rattle.peano_keys.specs.Grid.{Spacetree}
 use Rattle.peano_keys.specs.Field.{States}
 use Rattle.peano_curve.specs.declared.order.Direction.{Direction}
+use Rattle.spacetree.specs.declared.limits.TheConstants.{MOST_CELLS}
 use Rattle.spacetree.specs.Counts.{cells_of}
 use Rattle.spacetree.specs.Fields.{IsFieldOn}
 use Rattle.curve_cuts.specs.Cuts.{Cuts, IsCutGrid}
@@ -34,7 +35,7 @@ pub record AreAt (parts : ℕ) (k : Cuts) (stores : List TreeLists) (notes : Lis
   pub stand : AllStandFor k dir g f stores
   pub tales : HaveTales k.trees stores notes
   pub counted : cells ≡ cells_of g
-  pub room : cells_of g ≤ 200000
+  pub room : cells_of g ≤ MOST_CELLS
 
 -- a live world is at a grid and a field after so many steps
 pub record IsAt {S : Type 0} (parts : ℕ) (w : Seen S) (g : Spacetree) (f : States) (step : ℕ) : Type 0 where

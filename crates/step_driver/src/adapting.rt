@@ -1,49 +1,76 @@
 //! The adaptation sweeps of all trees.
-ghost use Rattle.std.specs.Prelude.{◌≡◌, ◌<◌, IfOk, OnOk, OnErr, length};
+ghost use Rattle.std.specs.Prelude.{◌≡◌, IfOk, OnErr};
 ghost use Rattle.peano_curve.specs.declared.order.Direction.{Direction};
 ghost use Rattle.curve_cuts.specs.Keys.{cuts_of};
 ghost use Rattle.step_phases.specs.Change.{Change};
-ghost use Rattle.adapt_sweep.specs.Adapting.{CanBeAdapted};
 ghost use Rattle.step_world.specs.Notes.{note_adapted, by_trees};
-ghost use Rattle.step_driver.specs.Stores.{store_of};
+ghost use Rattle.step_driver.specs.Gives.{EachIs, EachMayGive};
 ghost use Rattle.step_driver.specs.Notes.{sizes_of, AddsFirst};
-ghost use Rattle.step_driver.specs.Adapting.{AllCanAdapt, AllCanTake, AreAdapted, IsAdaptedAt};
+ghost use Rattle.step_driver.specs.Adapting.{AllCanAdapt, AllCanTake, AreAdapted, Adapts, CanTake};
 
+use crate::beside::{Swept, all_of, stores_of};
 use adapt_sweep::{NewGrid, adapt_tree};
 use curve_cuts::Keys;
-use std::alloc::AllocError;
+use std::alloc::{AllocError, Global};
+use std::thread;
+use std::thread::Threads;
 use tree_automaton::TreeStore;
 use vertex_stacks::SweepNote;
 
 // The adaptation sweep of one tree.
-fn adapt_at<N: NewGrid>(
-    stores: &mut [TreeStore],
+fn adapt_one<N: NewGrid>(
+    mut store: TreeStore,
     keys: &Keys,
     step: u32,
-    t: usize,
-) -> Result<SweepNote, AllocError>
-    requires place { t < length stores.old }
-    requires can { (w : Change) × (w.new ≡ N.grid) × CanBeAdapted (cuts_of keys.now) w (store_of stores.old t) }
-    ensures { IfOk result (λ note. IsAdaptedAt (cuts_of keys.now) N.grid step t stores.old stores.new note) }
+) -> Result<Swept<()>, AllocError>
+    requires { CanTake (cuts_of keys.now) N.grid store }
+    ensures { IfOk result (Adapts (cuts_of keys.now) N.grid step store) }
 {
-    adapt_tree::<N>(&mut stores[t], keys, step)
+    let note = adapt_tree::<N>(&mut store, keys, step)?;
+    Ok(Swept {
+        store,
+        note,
+        found: (),
+    })
 }
 
-/// The adaptation sweeps of all trees to a grid that the type parameter tells contracts: each notes its sweep. May want
-/// memory alone.
-pub(crate) fn adapt_all<N: NewGrid>(
-    stores: &mut [TreeStore],
+// The adaptation sweep of each tree, beside those of the others.
+fn adapt_each<N: NewGrid + Send + Sync, R: Threads + Sync>(
+    rt: &R,
+    stores: Vec<TreeStore>,
+    keys: &Keys,
+    step: u32,
+) -> Result<Vec<Result<Swept<()>, AllocError>>, AllocError>
+    requires { EachIs (CanTake (cuts_of keys.now) N.grid) stores.items }
+    ensures { IfOk result (λ given. EachMayGive (Adapts (cuts_of keys.now) N.grid step) stores.items given.items) }
+{
+    thread::map_vec(
+        rt,
+        stores,
+        &|store: TreeStore| -> Result<Swept<()>, AllocError>
+            requires { CanTake (cuts_of keys.now) N.grid store }
+            ensures { IfOk result (Adapts (cuts_of keys.entry.now) N.grid step store) }
+        { adapt_one::<N>(store, keys, step) },
+    )
+}
+
+/// The adaptation sweeps of all trees, beside each other, to a grid that the type parameter tells contracts: each notes its
+/// sweep. The answer is their stores. May want memory alone.
+pub(crate) fn adapt_all<N: NewGrid + Send + Sync, R: Threads + Sync>(
+    rt: &R,
+    alloc: Global,
+    stores: Vec<TreeStore>,
     notes: &mut Vec<SweepNote>,
     keys: &Keys,
     step: u32,
-) -> Result<(), AllocError>
-    requires { AllCanTake (cuts_of keys.now) N.grid stores.old }
-    ensures adapted { OnOk result ((dir : Direction) (w : Change) → w.new ≡ N.grid → AllCanAdapt (cuts_of keys.now) dir w stores.old → AreAdapted (cuts_of keys.now) dir w step (cuts_of keys.now).trees stores.old stores.new notes.old.items notes.new.items) }
-    ensures stopped { OnErr result ((dir : Direction) (w : Change) → w.new ≡ N.grid → AllCanAdapt (cuts_of keys.now) dir w stores.old → AddsFirst notes.old.items notes.new.items (by_trees (cuts_of keys.now).trees (note_adapted (sizes_of (cuts_of keys.now)) step w.old w.new))) }
+) -> Result<Vec<TreeStore>, AllocError>
+    requires { AllCanTake (cuts_of keys.now) N.grid stores.items }
+    ensures adapted { IfOk result (λ after. (dir : Direction) (w : Change) → w.new ≡ N.grid → AllCanAdapt (cuts_of keys.now) dir w stores.items → AreAdapted (cuts_of keys.now) dir w step stores.items after.items notes.old.items notes.new.items) }
+    ensures stopped { OnErr result ((dir : Direction) (w : Change) → w.new ≡ N.grid → AllCanAdapt (cuts_of keys.now) dir w stores.items → AddsFirst notes.old.items notes.new.items (by_trees (cuts_of keys.now).trees (note_adapted (sizes_of (cuts_of keys.now)) step w.old w.new))) }
 {
-    for t in 0..stores.len() {
-        let note = adapt_at::<N>(stores, keys, step, t)?;
-        notes.push(note)?;
+    let swept = all_of(alloc, adapt_each::<N, R>(rt, stores, keys, step)?)?;
+    for tree in &swept {
+        notes.push(tree.note)?;
     }
-    Ok(())
+    stores_of(alloc, swept)
 }

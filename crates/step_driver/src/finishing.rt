@@ -1,5 +1,5 @@
 //! The secondary sweeps of all trees.
-ghost use Rattle.std.specs.Prelude.{◌≡◌, ◌+◌, ◌<◌, IfOk, OnErr, length};
+ghost use Rattle.std.specs.Prelude.{◌≡◌, ◌+◌, IfOk, OnErr, length};
 ghost use Rattle.peano_keys.specs.Field.{States};
 ghost use Rattle.peano_curve.specs.declared.order.Direction.{Direction};
 ghost use Rattle.curve_cuts.specs.Keys.{cuts_of};
@@ -8,13 +8,22 @@ ghost use Rattle.vertex_stacks.specs.Tales.{capped};
 ghost use Rattle.step_phases.specs.Change.{Change};
 ghost use Rattle.step_world.specs.Notes.{note_over, by_trees};
 ghost use Rattle.step_sweeps.specs.Sweeps.{CanFinish};
-ghost use Rattle.step_driver.specs.Stores.{store_of};
+ghost use Rattle.step_driver.specs.Gives.{EachIs, EachGives};
+ghost use Rattle.step_driver.specs.Tasking.{AreTasksOf};
+ghost use Rattle.step_driver.specs.Computing.{least_with};
 ghost use Rattle.step_driver.specs.Notes.{sizes_of, AddsFirst};
-ghost use Rattle.step_driver.specs.Finishing.{AllMarked, AllCanFinish, AreFinished, IsFinishedAt};
+ghost use Rattle.step_driver.specs.Finishing.{AllMarked, AllCanFinish, AreFinished, Finishes, CanFinishJob, FinishesJob};
 
+use crate::beside::{Swept, all_of, paired, stores_of};
+use crate::computing::with_found;
 use curve_cuts::Keys;
-use std::alloc::AllocError;
-use step_sweeps::{Tally, secondary_tree};
+use peano_keys::CellKey;
+use solver_api::Solver;
+use std::alloc::{AllocError, Global};
+use std::thread;
+use std::thread::Threads;
+use step_sweeps::{Tally, TreeTasks, secondary_tree};
+use task_pool::Gate;
 use tree_automaton::TreeStore;
 use vertex_stacks::SweepNote;
 
@@ -23,6 +32,14 @@ use vertex_stacks::SweepNote;
 pub(crate) struct Turnover {
     pub(crate) splits: u64,
     pub(crate) merges: u64,
+}
+
+/// What the trees find while they compute a step: the least leaf that has no new value, if there is one, and how many
+/// cells split and merge.
+#[derive(Clone, Copy)]
+pub(crate) struct Findings {
+    pub(crate) failing: Option<CellKey>,
+    pub(crate) turnover: Turnover,
 }
 
 impl Turnover {
@@ -38,40 +55,97 @@ impl Turnover {
     }
 }
 
-// The secondary sweep of one tree.
-fn finish_at(
-    stores: &mut [TreeStore],
-    keys: &Keys,
-    step: u32,
-    t: usize,
-) -> Result<(SweepNote, Tally), AllocError>
-    requires place { t < length stores.old }
-    requires can { CanFinish (cuts_of keys.now) (store_of stores.old t) }
-    ensures { IfOk result (λ r. IsFinishedAt (cuts_of keys.now) step t stores.old stores.new r.0 r.1) }
-{
-    secondary_tree(&mut stores[t], keys, step)
+impl Findings {
+    // With what one more tree found.
+    fn with(self, tally: &Tally) -> Findings
+        ensures failing { result.failing ≡ least_with self.failing tally.now.failing }
+        ensures splits { result.turnover.splits ≡ capped (self.turnover.splits + tally.now.splits) }
+        ensures merges { result.turnover.merges ≡ capped (self.turnover.merges + tally.now.merges) }
+    {
+        Findings {
+            failing: with_found(self.failing, tally.failing),
+            turnover: self.turnover.with(tally),
+        }
+    }
 }
 
-/// The secondary sweeps of all trees: each notes its sweep. The answer is how many cells split and merge. May want memory
-/// alone.
-pub(crate) fn finish_all(
-    stores: &mut [TreeStore],
-    notes: &mut Vec<SweepNote>,
-    keys: &Keys,
+/// All trees after their secondary sweeps: their stores, and what they found.
+#[derive(Drop)]
+pub(crate) struct Finished {
+    pub(crate) stores: Vec<TreeStore>,
+    pub(crate) found: Findings,
+}
+
+// The secondary sweep of one tree, with its tasks, which it gathers.
+fn finish_one<'p, S: Solver, G: Gate>(
+    mut store: TreeStore,
+    tasks: TreeTasks<'p, S>,
+    solver: &'p S,
+    keys: &'p Keys,
     step: u32,
-) -> Result<Turnover, AllocError>
-    requires { AllCanFinish (cuts_of keys.now) stores.old }
-    ensures finished { IfOk result (λ turnover. (dir : Direction) (w : Change) (f : States) → AllMarked (cuts_of keys.now) dir w f stores.old → AreFinished (cuts_of keys.now) dir w step (cuts_of keys.now).trees stores.old stores.new notes.old.items notes.new.items turnover) }
-    ensures stopped { OnErr result ((dir : Direction) (w : Change) (f : States) → AllMarked (cuts_of keys.now) dir w f stores.old → AddsFirst notes.old.items notes.new.items (by_trees (cuts_of keys.now).trees (note_over (sizes_of (cuts_of keys.now)) step Secondary w.old))) }
+    gate: &'p G,
+) -> Result<Swept<Tally>, AllocError>
+    requires store { CanFinish (record { parts = S.parts_of solver.now; updated = S.updated solver.now; marked = S.marked solver.now }) (cuts_of keys.now) store }
+    requires tasks { tasks.solver ≡ solver.now }
+    ensures { IfOk result (Finishes (record { parts = S.parts_of solver.now; updated = S.updated solver.now; marked = S.marked solver.now }) (cuts_of keys.now) step store) }
 {
-    let mut turnover = Turnover {
-        splits: 0,
-        merges: 0,
+    let (_, swept) = secondary_tree(&mut store, solver, keys, step, tasks, gate);
+    let (note, found) = swept?;
+    Ok(Swept { store, note, found })
+}
+
+// The secondary sweep of each tree, beside those of the others.
+fn finish_each<'p, S: Solver, R: Threads + Sync, G: Gate>(
+    rt: &R,
+    jobs: Vec<(TreeStore, TreeTasks<'p, S>)>,
+    solver: &'p S,
+    keys: &'p Keys,
+    step: u32,
+    gate: &'p G,
+) -> Result<Vec<Result<Swept<Tally>, AllocError>>, AllocError>
+    requires { EachIs (CanFinishJob (record { parts = S.parts_of solver.now; updated = S.updated solver.now; marked = S.marked solver.now }) (cuts_of keys.now) solver.now) jobs.items }
+    ensures { IfOk result (λ given. EachGives (FinishesJob (record { parts = S.parts_of solver.now; updated = S.updated solver.now; marked = S.marked solver.now }) (cuts_of keys.now) step) jobs.entry.items given.items) }
+{
+    thread::map_vec(
+        rt,
+        jobs,
+        &|job: (TreeStore, TreeTasks<S>)| -> Result<Swept<Tally>, AllocError>
+            requires { CanFinishJob (record { parts = S.parts_of solver.now; updated = S.updated solver.now; marked = S.marked solver.now }) (cuts_of keys.now) solver.now job }
+            ensures { FinishesJob (record { parts = S.parts_of solver.entry.now; updated = S.updated solver.entry.now; marked = S.marked solver.entry.now }) (cuts_of keys.entry.now) step job.entry result }
+        { finish_one(job.0, job.1, solver, keys, step, gate) },
+    )
+}
+
+/// The secondary sweeps of all trees, beside each other: each notes its sweep, and gathers its tasks. May want memory alone.
+pub(crate) fn finish_all<'p, S: Solver, R: Threads + Sync, G: Gate>(
+    rt: &R,
+    alloc: Global,
+    stores: Vec<TreeStore>,
+    tasks: Vec<TreeTasks<'p, S>>,
+    notes: &mut Vec<SweepNote>,
+    solver: &'p S,
+    keys: &'p Keys,
+    step: u32,
+    gate: &'p G,
+) -> Result<Finished, AllocError>
+    requires tasks { (length tasks.items ≡ length stores.items) × AreTasksOf solver.now tasks.items }
+    requires stores { AllCanFinish (record { parts = S.parts_of solver.now; updated = S.updated solver.now; marked = S.marked solver.now }) (cuts_of keys.now) stores.items }
+    ensures finished { IfOk result (λ r. (dir : Direction) (w : Change) (f : States) → AllMarked (record { parts = S.parts_of solver.now; updated = S.updated solver.now; marked = S.marked solver.now }) (cuts_of keys.now) dir w f stores.items → AreFinished (cuts_of keys.now) dir w step stores.items r.stores.items notes.old.items notes.new.items r.found) }
+    ensures stopped { OnErr result ((dir : Direction) (w : Change) (f : States) → AllMarked (record { parts = S.parts_of solver.now; updated = S.updated solver.now; marked = S.marked solver.now }) (cuts_of keys.now) dir w f stores.items → AddsFirst notes.old.items notes.new.items (by_trees (cuts_of keys.now).trees (note_over (sizes_of (cuts_of keys.now)) step Secondary w.old))) }
+{
+    let jobs = paired(alloc, stores, tasks)?;
+    let swept = all_of(alloc, finish_each(rt, jobs, solver, keys, step, gate)?)?;
+    let mut found = Findings {
+        failing: None,
+        turnover: Turnover {
+            splits: 0,
+            merges: 0,
+        },
     };
-    for t in 0..stores.len() {
-        let (note, tally) = finish_at(stores, keys, step, t)?;
-        notes.push(note)?;
-        turnover = turnover.with(&tally);
+    for tree in &swept {
+        notes.push(tree.note)?;
+        found = found.with(&tree.found);
     }
-    Ok(turnover)
+    let stores = stores_of(alloc, swept)?;
+    Ok(Finished { stores, found })
 }

@@ -4,6 +4,7 @@
 
 mod adapting;
 mod along;
+mod beside;
 mod computing;
 mod exchanging;
 mod finishing;
@@ -14,6 +15,8 @@ mod refusing;
 mod showing;
 mod size;
 mod stepping;
+mod tasking;
+mod working;
 mod world;
 
 pub use showing::Shown;

@@ -3,24 +3,20 @@ ghost use Rattle.std.specs.Prelude.{◌≡◌, ◌<◌, IfOk};
 ghost use Rattle.curve_cuts.specs.Cuts.{IsCutGrid};
 ghost use Rattle.curve_cuts.specs.Keys.{cuts_of};
 ghost use Rattle.spacetree.specs.Fields.{HasLeaves};
-ghost use Rattle.step_driver.specs.Starts.{IsRaisedWith, AreRaised, AreStarted};
+ghost use Rattle.step_driver.specs.Starts.{IsRaisedWith, MayBeRaised, AreRaised, AreStarted};
 
+use crate::beside::{Swept, all_of, stores_of};
 use crate::exchanging::exchange;
 use adapt_sweep::raise_tree;
 use curve_cuts::Keys;
 use spacetree::{Field, Grid};
 use std::alloc::{AllocError, Global};
+use std::thread;
+use std::thread::Threads;
 use step_phases::Phase;
 use tree_automaton::TreeStore;
 use vertex_stacks::SweepNote;
 use vertex_stacks::laws::tale_of_notes_grows;
-
-/// A tree after a sweep: its store, and the sweep's note.
-#[derive(Drop)]
-pub(crate) struct Swept {
-    pub(crate) store: TreeStore,
-    pub(crate) note: SweepNote,
-}
 
 /// The stores of all trees, by number, and the notes of all their sweeps.
 #[derive(Drop)]
@@ -36,33 +32,65 @@ fn raise_one(
     field: &Field,
     keys: &Keys,
     tree: u32,
-) -> Result<Swept, AllocError>
+) -> Result<Swept<()>, AllocError>
     requires grid { IsCutGrid (cuts_of keys.now) grid.now }
     requires tree { tree < (cuts_of keys.now).trees }
-    ensures { IfOk result (λ swept. IsRaisedWith (cuts_of keys.now) grid.now field.now tree swept.store swept.note) }
+    ensures { IfOk result (IsRaisedWith (cuts_of keys.now) grid.now field.now tree) }
 {
     let mut store = TreeStore::new(alloc, keys.dim(), keys.depth(), keys.range(tree), tree);
     let note = raise_tree(&mut store, grid, field, keys, 0)?;
-    Ok(Swept { store, note })
+    Ok(Swept {
+        store,
+        note,
+        found: (),
+    })
+}
+
+// All trees, each raised beside the others.
+fn raise_each<R: Threads + Sync>(
+    rt: &R,
+    alloc: Global,
+    grid: &Grid,
+    field: &Field,
+    keys: &Keys,
+) -> Result<Vec<Result<Swept<()>, AllocError>>, AllocError>
+    requires { IsCutGrid (cuts_of keys.now) grid.now }
+    ensures { IfOk result (λ given. MayBeRaised (cuts_of keys.now) grid.now field.now given.items) }
+{
+    thread::map_indices(
+        rt,
+        alloc,
+        keys.trees() as usize,
+        &|t: usize| -> Result<Swept<()>, AllocError>
+            requires { IsCutGrid (cuts_of keys.now) grid.now × (t < (cuts_of keys.now).trees) × (t < 4294967296) }
+            ensures { IfOk result (IsRaisedWith (cuts_of keys.entry.now) grid.entry.now field.entry.now t) }
+        { raise_one(alloc, grid, field, keys, t as u32) },
+    )
 }
 
 // All trees, raised.
-fn raise_all(alloc: Global, grid: &Grid, field: &Field, keys: &Keys) -> Result<Forest, AllocError>
+fn raise_all<R: Threads + Sync>(
+    rt: &R,
+    alloc: Global,
+    grid: &Grid,
+    field: &Field,
+    keys: &Keys,
+) -> Result<Forest, AllocError>
     requires { IsCutGrid (cuts_of keys.now) grid.now }
     ensures { IfOk result (λ forest. AreRaised (cuts_of keys.now) grid.now field.now (cuts_of keys.now).trees forest.stores.items forest.notes.items) }
 {
-    let mut stores = Vec::new(alloc);
+    let swept = all_of(alloc, raise_each(rt, alloc, grid, field, keys)?)?;
     let mut notes = Vec::new(alloc);
-    for tree in 0..keys.trees() {
-        let Swept { store, note } = raise_one(alloc, grid, field, keys, tree)?;
-        stores.push(store)?;
-        notes.push(note)?;
+    for tree in &swept {
+        notes.push(tree.note)?;
     }
+    let stores = stores_of(alloc, swept)?;
     Ok(Forest { stores, notes })
 }
 
 /// The trees of some keys over a grid and its field: raised, then exchanged. May want memory alone.
-pub(crate) fn plant(
+pub(crate) fn plant<R: Threads + Sync>(
+    rt: &R,
     alloc: Global,
     grid: &Grid,
     field: &Field,
@@ -73,7 +101,10 @@ pub(crate) fn plant(
     ensures { IfOk result (λ forest. AreStarted (cuts_of keys.now) grid.now field.now forest.stores.items forest.notes.items) }
 {
     tale_of_notes_grows();
-    let mut forest = raise_all(alloc, grid, field, keys)?;
-    exchange(alloc, forest.stores.as_mut_slice(), keys, Phase::Opening)?;
-    Ok(forest)
+    let raised = raise_all(rt, alloc, grid, field, keys)?;
+    let stores = exchange(rt, alloc, raised.stores, keys, Phase::Opening)?;
+    Ok(Forest {
+        stores,
+        notes: raised.notes,
+    })
 }

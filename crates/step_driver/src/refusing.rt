@@ -2,10 +2,7 @@
 ghost use Rattle.step_driver.specs.Refusing.{IsRefusal};
 
 use peano_keys::CellKey;
-use spacetree::EvalFault;
-
-// How many cells a grid has at most.
-const MOST_CELLS: u64 = 200_000;
+use spacetree::{EvalFault, MOST_CELLS};
 
 /// Why a step is refused, if it is: because of the least leaf that fails; or, where none does, because the next grid has too
 /// many cells.

@@ -1,5 +1,5 @@
 //! The showing sweeps of all trees.
-ghost use Rattle.std.specs.Prelude.{◌≡◌, ℕ, ◌<◌, IfOk, OnErr, length};
+ghost use Rattle.std.specs.Prelude.{◌≡◌, ℕ, IfOk, OnErr, length};
 ghost use Rattle.peano_keys.specs.Grid.{Spacetree};
 ghost use Rattle.peano_keys.specs.Field.{States};
 ghost use Rattle.peano_curve.specs.declared.order.Direction.{Direction};
@@ -8,17 +8,20 @@ ghost use Rattle.spacetree.specs.Fields.{rows_of};
 ghost use Rattle.vertex_stacks.specs.declared.kind.Kind.TheVariants as kind;
 ghost use Rattle.step_world.specs.Notes.{note_over, by_trees};
 ghost use Rattle.showing_sweep.specs.Sweeps.{CanShow};
-ghost use Rattle.step_driver.specs.Stores.{store_of};
+ghost use Rattle.step_driver.specs.Gives.{EachIs, EachMayGive};
 ghost use Rattle.step_driver.specs.Notes.{sizes_of, AddsFirst};
 ghost use Rattle.step_driver.specs.Computing.{AllStandOn, AllCanStep};
 ghost use Rattle.step_driver.specs.Worlds.{AreAt};
-ghost use Rattle.step_driver.specs.Showing.{AreRowsOf, AreShown, IsShownAt, ShowTrees};
+ghost use Rattle.step_driver.specs.Showing.{AreRowsOf, AreShown, ShowsTree, ShowTrees};
 
+use crate::beside::{Swept, all_of, stores_of};
 use curve_cuts::Keys;
 use field_report::Traffic;
 use showing_sweep::{Shown as ShownTree, show_tree};
 use spacetree::Row;
 use std::alloc::{AllocError, Global};
+use std::thread;
+use std::thread::Threads;
 use tree_automaton::TreeStore;
 use vertex_stacks::SweepNote;
 use vertex_stacks::laws::tale_of_notes_grows;
@@ -31,19 +34,46 @@ pub struct Shown {
     pub traffic: Vec<Traffic>,
 }
 
+/// All trees after their showing sweeps: their stores, and what they show.
+#[derive(Drop)]
+pub(crate) struct ShownTrees {
+    pub(crate) stores: Vec<TreeStore>,
+    pub(crate) shown: Shown,
+}
+
 // The showing sweep of one tree.
-fn show_at(
+fn show_one(
     alloc: Global,
-    stores: &mut [TreeStore],
+    mut store: TreeStore,
     keys: &Keys,
     step: u32,
-    t: usize,
-) -> Result<(SweepNote, ShownTree), AllocError>
-    requires place { t < length stores.old }
-    requires can { CanShow (cuts_of keys.now) (store_of stores.old t) }
-    ensures { IfOk result (λ r. IsShownAt (cuts_of keys.now) step t stores.old stores.new r.0 r.1) }
+) -> Result<Swept<ShownTree>, AllocError>
+    requires { CanShow (cuts_of keys.now) store }
+    ensures { IfOk result (ShowsTree (cuts_of keys.now) step store) }
 {
-    show_tree(alloc, &mut stores[t], keys, step)
+    let (note, found) = show_tree(alloc, &mut store, keys, step)?;
+    Ok(Swept { store, note, found })
+}
+
+// The showing sweep of each tree, beside those of the others.
+fn show_each<R: Threads + Sync>(
+    rt: &R,
+    alloc: Global,
+    stores: Vec<TreeStore>,
+    keys: &Keys,
+    step: u32,
+) -> Result<Vec<Result<Swept<ShownTree>, AllocError>>, AllocError>
+    requires { EachIs (CanShow (cuts_of keys.now)) stores.items }
+    ensures { IfOk result (λ given. EachMayGive (ShowsTree (cuts_of keys.now) step) stores.items given.items) }
+{
+    thread::map_vec(
+        rt,
+        stores,
+        &|store: TreeStore| -> Result<Swept<ShownTree>, AllocError>
+            requires { CanShow (cuts_of keys.now) store }
+            ensures { IfOk result (ShowsTree (cuts_of keys.entry.now) step store) }
+        { show_one(alloc, store, keys, step) },
+    )
 }
 
 // Puts the rows of a field into key order.
@@ -54,48 +84,55 @@ fn put_in_order(rows: &mut [Row])
     rows.sort_unstable_by_key(|row| row.key);
 }
 
-/// The showing sweeps of all trees: each notes its sweep. The rows stand as the trees gave them. May want memory alone.
-pub(crate) fn show_all(
+/// The showing sweeps of all trees, beside each other: each notes its sweep. The rows stand as the trees gave them. May want
+/// memory alone.
+pub(crate) fn show_all<R: Threads + Sync>(
+    rt: &R,
     alloc: Global,
-    stores: &mut [TreeStore],
+    stores: Vec<TreeStore>,
     notes: &mut Vec<SweepNote>,
     keys: &Keys,
     step: u32,
-) -> Result<Shown, AllocError>
-    requires { (parts : ℕ) × AllCanStep (cuts_of keys.now) parts stores.old }
-    ensures shown { IfOk result (λ shown. (parts : ℕ) (dir : Direction) (g : Spacetree) (f : States) → AllStandOn (cuts_of keys.now) parts dir g f stores.old → AreShown (cuts_of keys.now) parts dir g f step (cuts_of keys.now).trees stores.old stores.new notes.old.items notes.new.items shown) }
-    ensures step { IfOk result (λ shown. shown.step ≡ step) }
-    ensures stopped { OnErr result ((parts : ℕ) (dir : Direction) (g : Spacetree) (f : States) → AllStandOn (cuts_of keys.now) parts dir g f stores.old → AddsFirst notes.old.items notes.new.items (by_trees (cuts_of keys.now).trees (note_over (sizes_of (cuts_of keys.now)) step kind.Show g))) }
+) -> Result<ShownTrees, AllocError>
+    requires { (parts : ℕ) × AllCanStep (cuts_of keys.now) parts stores.items }
+    ensures shown { IfOk result (λ r. (parts : ℕ) (dir : Direction) (g : Spacetree) (f : States) → AllStandOn (cuts_of keys.now) parts dir g f stores.items → AreShown (cuts_of keys.now) parts dir g f step stores.items r.stores.items notes.old.items notes.new.items r.shown) }
+    ensures step { IfOk result (λ r. r.shown.step ≡ step) }
+    ensures stopped { OnErr result ((parts : ℕ) (dir : Direction) (g : Spacetree) (f : States) → AllStandOn (cuts_of keys.now) parts dir g f stores.items → AddsFirst notes.old.items notes.new.items (by_trees (cuts_of keys.now).trees (note_over (sizes_of (cuts_of keys.now)) step kind.Show g))) }
 {
+    let swept = all_of(alloc, show_each(rt, alloc, stores, keys, step)?)?;
     let mut rows = Vec::new(alloc);
     let mut traffic = Vec::new(alloc);
-    for t in 0..stores.len() {
-        let (note, shown) = show_at(alloc, stores, keys, step, t)?;
-        rows.extend_from_slice(shown.rows.as_slice())?;
-        traffic.push(shown.traffic)?;
-        notes.push(note)?;
+    for tree in &swept {
+        rows.extend_from_slice(tree.found.rows.as_slice())?;
+        traffic.push(tree.found.traffic)?;
+        notes.push(tree.note)?;
     }
-    Ok(Shown {
-        step,
-        rows,
-        traffic,
+    let stores = stores_of(alloc, swept)?;
+    Ok(ShownTrees {
+        stores,
+        shown: Shown {
+            step,
+            rows,
+            traffic,
+        },
     })
 }
 
 /// Shows all trees: the rows in key order. Each notes its sweep. May want memory alone.
-pub(crate) fn show_trees(
+pub(crate) fn show_trees<R: Threads + Sync>(
+    rt: &R,
     alloc: Global,
-    stores: &mut [TreeStore],
+    stores: Vec<TreeStore>,
     notes: &mut Vec<SweepNote>,
     keys: &Keys,
     step: u32,
-) -> Result<Shown, AllocError>
-    requires { (parts : ℕ) × (cells : ℕ) × (g : Spacetree) × (f : States) × AreAt parts (cuts_of keys.now) stores.old notes.old.items cells g f }
-    ensures shown { IfOk result (λ shown. (parts cells : ℕ) (g : Spacetree) (f : States) → AreAt parts (cuts_of keys.now) stores.old notes.old.items cells g f → ShowTrees parts (cuts_of keys.now) g f step cells stores.new notes.old.items notes.new.items shown) }
-    ensures stopped { OnErr result ((parts cells : ℕ) (g : Spacetree) (f : States) → AreAt parts (cuts_of keys.now) stores.old notes.old.items cells g f → AddsFirst notes.old.items notes.new.items (by_trees (cuts_of keys.now).trees (note_over (sizes_of (cuts_of keys.now)) step kind.Show g))) }
+) -> Result<ShownTrees, AllocError>
+    requires { (parts : ℕ) × (cells : ℕ) × (g : Spacetree) × (f : States) × AreAt parts (cuts_of keys.now) stores.items notes.old.items cells g f }
+    ensures shown { IfOk result (λ r. (parts cells : ℕ) (g : Spacetree) (f : States) → AreAt parts (cuts_of keys.now) stores.items notes.old.items cells g f → ShowTrees parts (cuts_of keys.now) g f step cells r.stores.items notes.old.items notes.new.items r.shown) }
+    ensures stopped { OnErr result ((parts cells : ℕ) (g : Spacetree) (f : States) → AreAt parts (cuts_of keys.now) stores.items notes.old.items cells g f → AddsFirst notes.old.items notes.new.items (by_trees (cuts_of keys.now).trees (note_over (sizes_of (cuts_of keys.now)) step kind.Show g))) }
 {
     tale_of_notes_grows();
-    let mut shown = show_all(alloc, stores, notes, keys, step)?;
-    put_in_order(shown.rows.as_mut_slice());
-    Ok(shown)
+    let mut trees = show_all(rt, alloc, stores, notes, keys, step)?;
+    put_in_order(trees.shown.rows.as_mut_slice());
+    Ok(trees)
 }

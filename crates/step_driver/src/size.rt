@@ -5,24 +5,22 @@ ghost use Rattle.spacetree.specs.Counts.{cells_for};
 ghost use Rattle.step_driver.specs.Sizes.{HasTurnover, IsSizeAfter};
 
 use crate::finishing::Turnover;
-use peano_keys::Dim;
+use peano_keys::{Dim, child_count};
+use spacetree::MOST_CELLS;
 
 // How many children so many cells have.
 fn children_of(dim: Dim, cells: u64) -> u64
-    requires { cells ≤ 200000 }
+    requires { cells ≤ MOST_CELLS }
     ensures value { result ≡ 3 ^ axes dim * cells }
     ensures most { result ≤ 5400000 }
 {
-    match dim {
-        Dim::Two => 9 * cells,
-        Dim::Three => 27 * cells,
-    }
+    u64::from(child_count(dim)) * cells
 }
 
 /// How many cells the next grid has: those of the old one, with the children of each cell that splits and without those of
 /// each that merges.
 pub(crate) fn size_after(cells: u64, dim: Dim, turnover: Turnover) -> u64
-    requires limit { cells ≤ 200000 }
+    requires limit { cells ≤ MOST_CELLS }
     requires turnover { HasTurnover dim cells turnover }
     ensures { IsSizeAfter dim cells turnover result }
 {

@@ -1,5 +1,5 @@
 //! The world.
-ghost use Rattle.std.specs.Prelude.{◌≡◌, ◌<◌, ◌≤◌, true, IfOk, length};
+ghost use Rattle.std.specs.Prelude.{◌≡◌, ◌-◌, ◌<◌, ◌≤◌, ◌^◌, true, IfOk, length};
 ghost use Rattle.peano_keys.specs.Grid.{IsGrid, Spacetree};
 ghost use Rattle.peano_keys.specs.Field.{States};
 ghost use Rattle.spacetree.specs.Fields.{IsFieldOn};
@@ -10,7 +10,7 @@ ghost use Rattle.step_driver.specs.Worlds.{IsAt};
 ghost use Rattle.step_driver.specs.LeafCounts.{IsLeafCount, IsRowCount};
 ghost use Rattle.step_driver.specs.Starts.{AreFirstKeys};
 ghost use Rattle.step_driver.specs.Advances.{IsAdvanced};
-ghost use Rattle.step_driver.specs.Showing.{Shows};
+ghost use Rattle.step_driver.specs.Showing.{ShowsWorld};
 
 use crate::keys::first_keys;
 use crate::raising::{Forest, plant};
@@ -22,6 +22,9 @@ use solver_api::Solver;
 use spacetree::{EvalFault as StepFault, Field, Grid};
 use std::alloc::{AllocError, Global};
 use std::marker::Model;
+use std::mem;
+use std::thread::Threads;
+use task_pool::Gate;
 use vertex_stacks::SweepNote;
 
 /// A grid and a field in the stores of 1 to 64 trees, with the solver that leads them from step to step. Contracts see
@@ -62,7 +65,8 @@ impl<S: Solver> Model for World<S> {
 impl<S: Solver> World<S> {
     /// A world at a grid of a depth and its field, cut into so many trees, each with an equal share of the leaves. May want
     /// memory alone.
-    pub fn start(
+    pub fn start<R: Threads + Sync>(
+        rt: &R,
         alloc: Global,
         depth: u32,
         grid: &Grid,
@@ -82,7 +86,7 @@ impl<S: Solver> World<S> {
         ensures notes { IfOk result (λ world. world.notes ≡ by_trees trees (note_raised (sizes_of (cuts_of world.keys)) grid.now)) }
     {
         let keys = first_keys(alloc, depth, grid, trees)?;
-        let forest = plant(alloc, grid, field, &keys)?;
+        let forest = plant(rt, alloc, grid, field, &keys)?;
         Ok(World {
             solver,
             keys,
@@ -93,20 +97,29 @@ impl<S: Solver> World<S> {
         })
     }
 
-    /// Takes one step. It is refused at the least leaf whose new value leaves the range of `i64`; where there is none,
+    /// Takes one step: trees run beside each other, with so many helpers, that take tasks of enclave leaves; `gate` is told of
+    /// each such task before its kernel runs. It is refused at the least leaf whose new value leaves the range of `i64`; where there is none,
     /// because the next grid would have more than 200,000 cells; or for want of memory. After a refusal the world is not
     /// live.
-    pub fn advance(&mut self, alloc: Global) -> Result<(), StepFault>
+    pub fn advance<R: Threads + Sync, G: Gate>(
+        &mut self,
+        rt: &R,
+        alloc: Global,
+        workers: u32,
+        gate: &G,
+    ) -> Result<(), StepFault>
         requires live { self.old.live ≡ true }
         requires step { self.old.step < 4294967295 }
+        requires workers { workers < 2 ^ 32 - 1 }
         ensures solver { self.new.solver ≡ self.old.solver }
         ensures keys { self.new.keys ≡ self.old.keys }
         ensures advanced { (g : Spacetree) (f : States) → IsAt (S.parts_of self.old.solver) self.old g f self.old.step → IsAdvanced (record { parts = S.parts_of self.old.solver; updated = S.updated self.old.solver; marked = S.marked self.old.solver }) (S.adapting self.old.solver) g f self.old self.new result }
     {
         let step = self.step + 1;
-        let stores = self.forest.stores.as_mut_slice();
+        let stores = mem::replace(&mut self.forest.stores, Vec::new(alloc));
         let notes = &mut self.forest.notes;
         match take_step(
+            rt,
             alloc,
             stores,
             notes,
@@ -114,9 +127,12 @@ impl<S: Solver> World<S> {
             &self.keys,
             self.cells,
             step,
+            workers,
+            gate,
         ) {
-            Ok(cells) => {
-                self.cells = cells;
+            Ok(stepped) => {
+                self.forest.stores = stepped.stores;
+                self.cells = stepped.cells;
                 self.step = step;
                 Ok(())
             }
@@ -129,16 +145,19 @@ impl<S: Solver> World<S> {
 
     /// Shows the world: the rows of its field in key order, and the traffic of each tree. It stays where it is. It is refused
     /// for want of memory alone, and then it is not live.
-    pub fn show(&mut self, alloc: Global) -> Result<Shown, AllocError>
+    pub fn show<R: Threads + Sync>(&mut self, rt: &R, alloc: Global) -> Result<Shown, AllocError>
         requires { self.old.live ≡ true }
         ensures solver { self.new.solver ≡ self.old.solver }
         ensures keys { self.new.keys ≡ self.old.keys }
-        ensures shown { (g : Spacetree) (f : States) → IsAt (S.parts_of self.old.solver) self.old g f self.old.step → Shows (S.parts_of self.old.solver) g f self.old self.new result }
+        ensures shown { (g : Spacetree) (f : States) → IsAt (S.parts_of self.old.solver) self.old g f self.old.step → ShowsWorld (S.parts_of self.old.solver) g f self.old self.new result }
     {
-        let stores = self.forest.stores.as_mut_slice();
+        let stores = mem::replace(&mut self.forest.stores, Vec::new(alloc));
         let notes = &mut self.forest.notes;
-        match show_trees(alloc, stores, notes, &self.keys, self.step) {
-            Ok(shown) => Ok(shown),
+        match show_trees(rt, alloc, stores, notes, &self.keys, self.step) {
+            Ok(trees) => {
+                self.forest.stores = trees.stores;
+                Ok(trees.shown)
+            }
             Err(error) => {
                 self.live = false;
                 Err(error)

@@ -30,7 +30,7 @@ use Rattle.step_phases.specs.Change.{Change, IsChange, Gives, carrier}
 use Rattle.step_phases.specs.Phases.{AtRest}
 use Rattle.step_phases.specs.Exchange.{exchanged, finished, IsExchanged}
 use Rattle.step_phases.specs.Sweeps.{IsSweptRecord, IsSwept, PrimaryChanges, SecondaryChanges, AdaptChanges, IsAdapted, refined_in}
-use Rattle.step_phases.specs.SweepLaws.{Chain, ChainExists}
+use Rattle.step_phases.specs.SweepLaws.{StepStores, ChainExists}
 use Rattle.step_phases.proofs.Grids.{there, at_position_is}
 use Rattle.step_phases.proofs.Sweeps.{between_is_intent}
 
@@ -153,7 +153,7 @@ module _ (k : Cuts) (g : Spacetree) (v : VertexKey) (fits : IsCutGrid k g) (vert
       by_case false e = e
       by_case true e = absurd (hung (stored_by_test e))
 
-module _ (k : Cuts) (w : Change) (ready : CellKey → Bool) (fits : IsCutGrid k w.old) (new_fits : IsCutGrid k w.new) (change : IsChange w) where
+module _ (k : Cuts) (w : Change) (fits : IsCutGrid k w.old) (new_fits : IsCutGrid k w.new) (change : IsChange w) where
   abbrev q0 : CellKey → Slot
   q0 c = record { status = status_of (is_refined w.old c); value = w.value c; next = w.value c; mark = Keep; intent = Stay }
 
@@ -179,8 +179,8 @@ module _ (k : Cuts) (w : Change) (ready : CellKey → Bool) (fits : IsCutGrid k 
     unused = λ n low high. ap (λ (s : Slot). s.intent) (at_unused k.dim v q0 n low high);
   }
 
-  primary : (t : ℕ) → IsSwept k w.old t (PrimaryChanges k w ready t) (all_same q0 t) (all_same q1 t)
-  primary t v has = swept_by k v q0 q1 (PrimaryChanges k w ready t) (λ c n below at. record { status = refl; value = refl; intent = refl; mark = λ owns leaf. refl; next = λ owns leaf r. gives_own (w.next c) (w.value c) })
+  primary : (t : ℕ) → IsSwept k w.old t (PrimaryChanges k w t) (all_same q0 t) (all_same q1 t)
+  primary t v has = swept_by k v q0 q1 (PrimaryChanges k w t) (λ c n below at. record { status = refl; value = refl; intent = refl; mark = λ owns leaf. refl; next = λ skeleton. gives_own (w.next c) (w.value c) })
 
   first : IsExchanged First k w.old (all_same q1) (all_same q1)
   first = exchanged_by First k w.old (λ v. q1)
@@ -220,7 +220,7 @@ module _ (k : Cuts) (w : Change) (ready : CellKey → Bool) (fits : IsCutGrid k 
       past : (n m : ℕ) → m ≤ n → nat_lt n m ≡ false
       past n m h = grind (arith, nat_tests)
 
-  chain : Chain k w ready
+  chain : StepStores k w
   chain = record {
     s0 = all_same q0;
     s1 = all_same q1;
@@ -236,4 +236,4 @@ module _ (k : Cuts) (w : Change) (ready : CellKey → Bool) (fits : IsCutGrid k 
   }
 
 pub chain_exists : ChainExists
-chain_exists k w ready fits new_fits change = chain k w ready fits new_fits change
+chain_exists k w fits new_fits change = chain k w fits new_fits change

@@ -12,6 +12,8 @@ use Rattle.peano_records.specs.AtRest.{status_of, intent_between}
 use Rattle.step_phases.specs.declared.phase.Phase.{Phase}
 use Rattle.step_phases.specs.declared.phase.Phase.TheVariants.{First, Second, Third, Opening}
 use Rattle.curve_cuts.specs.Cuts.{Cuts, Owns, HasVertex, IsCutGrid}
+use Rattle.curve_cuts.specs.Enclave.{IsSkeleton}
+use Rattle.curve_cuts.proofs.Cuts.{owner_is_one}
 use Rattle.step_phases.specs.Stores.{Stores, AllSay}
 use Rattle.step_phases.specs.Change.{Change, IsChange, carrier}
 use Rattle.step_phases.specs.Phases.{AtRest, HasOwn, AfterPrimary, AfterFirst, AfterSecondary, AfterSecond, AfterAdapt}
@@ -73,7 +75,7 @@ pub opening_rests : OpeningRests
 opening_rests k g f before after fits all given = exchange_takes Opening k g (HasOwn k g f) (AtRest g f) fits (λ t o c theirs ours owns a b. record { status = a.status owns; value = a.value owns; stay = refl }) before after all given
 
 pub first_exchange : FirstExchange
-first_exchange k w ready before after fits all given = exchange_takes First k w.old (AfterPrimary k w ready) (AfterFirst w ready) fits (λ t o c theirs ours owns a b. record { rest = record { status = b.rest.status; value = b.rest.value; stay = b.rest.stay }; mark = a.mark owns; next = a.next owns }) before after all given
+first_exchange k w before after fits all given = exchange_takes First k w.old (AfterPrimary k w) (AfterFirst k w) fits (λ t o c theirs ours owns a b. record { rest = record { status = b.rest.status; value = b.rest.value; stay = b.rest.stay }; mark = a.mark owns; next = λ s skeleton. a.next (subst (λ n. IsSkeleton k w.old n c) (owner_is_one k s o c fits.cuts skeleton.0.owns owns) skeleton) }) before after all given
 
 pub second_exchange : SecondExchange
 second_exchange k w before after fits all given = exchange_takes Second k w.old (AfterSecondary k w) (AfterSecond w) fits (λ t o c theirs ours owns a b. record { status = b.status; intent = a.intent owns; value = a.next owns }) before after all given

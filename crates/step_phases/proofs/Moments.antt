@@ -43,7 +43,7 @@ merge_from_refined false true h = absurd (split_not_merge h)
 merge_from_refined false false h = absurd (stay_not_merge h)
 
 pub secondary_begins : SecondaryBegins
-secondary_begins w ready c s h = record { status = h.rest.status; mark = h.mark; intent = inl h.rest.stay }
+secondary_begins k w c s h = record { status = h.rest.status; mark = h.mark; intent = inl h.rest.stay }
 
 -- a slot in a secondary sweep tells the old grid
 old_slot_in : (w : Change) (c : CellKey) (s : Slot) → has_cell w.old c ≡ true → InSecondary w c s → IsOldSlot w.old w.old false c s

@@ -48,7 +48,7 @@ swept_says k v P Q E old new says swept step =
     }
 
 pub primary_sweep : PrimarySweep
-primary_sweep k w ready t before after all swept = λ v has. swept_says k v (AtRest w.old w.value) (AfterPrimary k w ready t) (PrimaryChanges k w ready t) (before v) (after v) (all v has) (swept v has) (λ n c below at p e. record {
+primary_sweep k w t before after all swept = λ v has. swept_says k v (AtRest w.old w.value) (AfterPrimary k w t) (PrimaryChanges k w t) (before v) (after v) (all v has) (swept v has) (λ n c below at p e. record {
   rest = record { status = e.status ∙ p.status; value = e.value ∙ p.value; stay = e.intent ∙ p.stay };
   mark = e.mark;
   next = e.next;
@@ -80,7 +80,7 @@ pub between_is_intent : (old new : Spacetree) (marks : CellKey → Mark) (c : Ce
 between_is_intent old new marks c next = let follows = intents_follow_marks old new marks c next in record { split = follows.split; merge = follows.merge; stay = follows.stay }
 
 pub secondary_sweep : SecondarySweep
-secondary_sweep k w ready t before after next all swept = λ v has. swept_says k v (AfterFirst w ready) (AfterSecondary k w t) (SecondaryChanges k w t) (before v) (after v) (all v has) (swept v has) (λ n c below at p e. record {
+secondary_sweep k w t before after next all swept = λ v has. swept_says k v (AfterFirst k w) (AfterSecondary k w t) (SecondaryChanges k w t) (before v) (after v) (all v has) (swept v has) (λ n c below at p e. record {
   status = e.status ∙ p.rest.status;
   value = e.value ∙ p.rest.value;
   mark = λ leaf. e.mark ∙ p.mark leaf;
@@ -175,17 +175,17 @@ pub start_rests : StartRests
 start_rests k g f before after fits raised given = opening_rests k g f before after fits (λ t v has. says_less k v (AfterRaise k g f t) (HasOwn k g f t) (before t v) (λ c s h. h.own) (raise_sweep k g f t (before t) (raised t) v has)) given
 
 -- four moves to the second exchange
-to_second : (k : Cuts) (w : Change) (ready : CellKey → Bool) (s0 s1 s2 s3 s4 : Stores) → IsCutGrid k w.old → IsChange w → AllSay k w.old (λ t. AtRest w.old w.value) s0 → Steps k w ready s0 s1 s2 s3 s4 → AllSay k w.old (λ t. AfterSecond w) s4
-to_second k w ready s0 s1 s2 s3 s4 fits change rest moves =
-    let primary : AllSay k w.old (AfterPrimary k w ready) s1 = λ t. primary_sweep k w ready t (s0 t) (s1 t) (rest t) (moves.primary t) in
-    let first = first_exchange k w ready s1 s2 fits primary moves.first in
-    let secondary : AllSay k w.old (AfterSecondary k w) s3 = λ t. secondary_sweep k w ready t (s2 t) (s3 t) change.grid (first t) (moves.secondary t) in
+to_second : (k : Cuts) (w : Change) (s0 s1 s2 s3 s4 : Stores) → IsCutGrid k w.old → IsChange w → AllSay k w.old (λ t. AtRest w.old w.value) s0 → Steps k w s0 s1 s2 s3 s4 → AllSay k w.old (λ t. AfterSecond w) s4
+to_second k w s0 s1 s2 s3 s4 fits change rest moves =
+    let primary : AllSay k w.old (AfterPrimary k w) s1 = λ t. primary_sweep k w t (s0 t) (s1 t) (rest t) (moves.primary t) in
+    let first = first_exchange k w s1 s2 fits primary moves.first in
+    let secondary : AllSay k w.old (AfterSecondary k w) s3 = λ t. secondary_sweep k w t (s2 t) (s3 t) change.grid (first t) (moves.secondary t) in
     second_exchange k w s3 s4 fits secondary moves.second
 
 pub whole_step : WholeStep
-whole_step k w ready s0 s1 s2 s3 s4 s5 s6 fits new_fits change rest moves adapted third =
-    let moved = to_second k w ready s0 s1 s2 s3 s4 fits change rest moves in
+whole_step k w s0 s1 s2 s3 s4 s5 s6 fits new_fits change rest moves adapted third =
+    let moved = to_second k w s0 s1 s2 s3 s4 fits change rest moves in
     third_exchange k w s5 s6 new_fits (λ t. adapt_sweep k w t (s4 t) (s5 t) fits new_fits change (moved t) (adapted t)) third
 
 pub plain_step : PlainStep
-plain_step k w ready s0 s1 s2 s3 s4 fits change same rest moves = second_rests k w s4 fits change same (to_second k w ready s0 s1 s2 s3 s4 fits change rest moves)
+plain_step k w s0 s1 s2 s3 s4 fits change same rest moves = second_rests k w s4 fits change same (to_second k w s0 s1 s2 s3 s4 fits change rest moves)

@@ -1,5 +1,5 @@
 -- Laws of exchanges.
-use Rattle.std.specs.Prelude.{◌≡◌, ℕ, Bool, Some, ◌<◌}
+use Rattle.std.specs.Prelude.{◌≡◌, ℕ, Some, ◌<◌}
 use Rattle.peano_keys.specs.declared.cell.CellKey.{CellKey}
 use Rattle.peano_keys.specs.declared.state.State.{State}
 use Rattle.peano_keys.specs.declared.vertex.VertexKey.{VertexKey}
@@ -28,7 +28,7 @@ OpeningRests = (k : Cuts) (g : Spacetree) (f : CellKey → State) (before after 
 
 -- the first exchange: what trees say of their own leaves, all say
 abbrev pub FirstExchange : Type 0
-FirstExchange = (k : Cuts) (w : Change) (ready : CellKey → Bool) (before after : Stores) → IsCutGrid k w.old → AllSay k w.old (AfterPrimary k w ready) before → IsExchanged First k w.old before after → AllSay k w.old (λ t. AfterFirst w ready) after
+FirstExchange = (k : Cuts) (w : Change) (before after : Stores) → IsCutGrid k w.old → AllSay k w.old (AfterPrimary k w) before → IsExchanged First k w.old before after → AllSay k w.old (λ t. AfterFirst k w) after
 
 -- the second exchange: new values and intents go to all, and the new value takes the old one's place
 abbrev pub SecondExchange : Type 0

@@ -1,5 +1,5 @@
 -- What slots say at each moment inside the sweeps that read them.
-use Rattle.std.specs.Prelude.{◌≡◌, ◌⊎◌, ℕ, ◌<◌, ◌≤◌, Bool, true}
+use Rattle.std.specs.Prelude.{◌≡◌, ◌⊎◌, ℕ, ◌<◌, ◌≤◌, true}
 use Rattle.peano_keys.specs.declared.cell.CellKey.{CellKey}
 use Rattle.peano_keys.specs.declared.dim.Dim.{Dim}
 use Rattle.peano_keys.specs.declared.vertex.VertexKey.{VertexKey}
@@ -41,7 +41,7 @@ pub record ViewSays (g : Spacetree) (P : CellKey → Slot → Type 0) (view : Ce
 
 -- what the first exchange left is right for a secondary sweep
 abbrev pub SecondaryBegins : Type 0
-SecondaryBegins = (w : Change) (ready : CellKey → Bool) (c : CellKey) (s : Slot) → AfterFirst w ready c s → InSecondary w c s
+SecondaryBegins = (k : Cuts) (w : Change) (c : CellKey) (s : Slot) → AfterFirst k w c s → InSecondary w c s
 
 -- and at each of its moments a view shows the grid and the marks, as the decisions on splits and merges ask
 abbrev pub SecondaryViewsShow : Type 0

@@ -1,12 +1,13 @@
 -- What the slot of a cell says at each moment of a step, in the copy of a tree.
-use Rattle.std.specs.Prelude.{◌≡◌, ℕ, Bool, true}
+use Rattle.std.specs.Prelude.{◌≡◌, ℕ}
 use Rattle.peano_keys.specs.declared.cell.CellKey.{CellKey}
 use Rattle.peano_keys.specs.declared.state.State.{State}
-use Rattle.peano_keys.specs.Grid.{Spacetree, is_refined, is_leaf}
+use Rattle.peano_keys.specs.Grid.{Spacetree, is_refined}
 use Rattle.peano_records.specs.declared.slot.Slot.{Slot}
 use Rattle.peano_records.specs.declared.slot.Intent.TheVariants.{Stay}
 use Rattle.peano_records.specs.AtRest.{status_of, intent_between}
 use Rattle.curve_cuts.specs.Cuts.{Cuts, Owns}
+use Rattle.curve_cuts.specs.Enclave.{IsSkeleton}
 use Rattle.adapt_marks.specs.Views.{HasMark}
 use Rattle.step_phases.specs.Change.{Change, Gives}
 
@@ -30,17 +31,17 @@ pub record AfterRaise (k : Cuts) (g : Spacetree) (f : CellKey → State) (t : �
   pub status : s.status ≡ status_of (is_refined g c)
   pub own : HasOwn k g f t c s
 
--- after the primary sweep: the marks of the tree's own leaves, and the new values of those that are ready
-pub record AfterPrimary (k : Cuts) (w : Change) (ready : CellKey → Bool) (t : ℕ) (c : CellKey) (s : Slot) : Type 0 where
+-- after the primary sweep: the marks of the tree's own leaves, and the new values of its skeleton leaves
+pub record AfterPrimary (k : Cuts) (w : Change) (t : ℕ) (c : CellKey) (s : Slot) : Type 0 where
   pub rest : AtRest w.old w.value c s
   pub mark : Owns k t c → HasMark w.old w.mark c s
-  pub next : Owns k t c → is_leaf w.old c ≡ true → ready c ≡ true → HasNext w c s
+  pub next : IsSkeleton k w.old t c → HasNext w c s
 
--- after the first exchange: the marks of all leaves, and the new values of all that are ready
-pub record AfterFirst (w : Change) (ready : CellKey → Bool) (c : CellKey) (s : Slot) : Type 0 where
+-- after the first exchange: the marks of all leaves, and the new values of the skeleton leaves of all trees
+pub record AfterFirst (k : Cuts) (w : Change) (c : CellKey) (s : Slot) : Type 0 where
   pub rest : AtRest w.old w.value c s
   pub mark : HasMark w.old w.mark c s
-  pub next : is_leaf w.old c ≡ true → ready c ≡ true → HasNext w c s
+  pub next : (t : ℕ) → IsSkeleton k w.old t c → HasNext w c s
 
 -- after the secondary sweep: the new value of each of the tree's own cells, and what is intended with it; the value is still the old one
 pub record AfterSecondary (k : Cuts) (w : Change) (t : ℕ) (c : CellKey) (s : Slot) : Type 0 where

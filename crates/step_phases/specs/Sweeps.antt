@@ -15,6 +15,7 @@ use Rattle.peano_records.specs.Slots.{VertexRecord, slot_at, fresh}
 use Rattle.peano_records.specs.AtRest.{status_of}
 use Rattle.peano_records.specs.Tells.{slot_tells}
 use Rattle.curve_cuts.specs.Cuts.{Cuts, Owns, HasVertex}
+use Rattle.curve_cuts.specs.Enclave.{IsSkeleton}
 use Rattle.step_phases.specs.Stores.{Store, home_slot}
 use Rattle.step_phases.specs.Change.{Change, carrier}
 use Rattle.step_phases.specs.Phases.{HasNext}
@@ -41,13 +42,13 @@ pub record RaiseChanges (k : Cuts) (g : Spacetree) (f : CellKey → State) (t : 
 abbrev pub IsRaised : Cuts → Spacetree → (CellKey → State) → ℕ → Store → Type 0
 IsRaised k g f t store = (v : VertexKey) → HasVertex k g t v → IsSweptRecord k (RaiseChanges k g f t) v (fresh k.dim v) (store v)
 
--- the primary sweep: the mark of each leaf of the tree's own, and the new value of each that is ready
-pub record PrimaryChanges (k : Cuts) (w : Change) (ready : CellKey → Bool) (t : ℕ) (c : CellKey) (old new : Slot) : Type 0 where
+-- the primary sweep: the mark of each leaf of the tree's own, and the new value of each skeleton leaf
+pub record PrimaryChanges (k : Cuts) (w : Change) (t : ℕ) (c : CellKey) (old new : Slot) : Type 0 where
   pub status : new.status ≡ old.status
   pub value : new.value ≡ old.value
   pub intent : new.intent ≡ old.intent
   pub mark : Owns k t c → is_leaf w.old c ≡ true → new.mark ≡ w.mark c
-  pub next : Owns k t c → is_leaf w.old c ≡ true → ready c ≡ true → HasNext w c new
+  pub next : IsSkeleton k w.old t c → HasNext w c new
 
 -- the intent of a cell by the marks: leaves that split, refined cells that merge, and no other cell
 pub record IsIntentOf (g : Spacetree) (marks : CellKey → Mark) (c : CellKey) (i : Intent) : Type 0 where

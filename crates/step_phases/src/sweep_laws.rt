@@ -7,7 +7,7 @@ pub fn raise_sweep()
     ensures { RaiseSweep }
 {}
 
-/// The primary sweep gives the tree's own leaves their marks, and their new values to those that are ready.
+/// The primary sweep gives the tree's own leaves their marks, and their new values to its skeleton leaves.
 pub fn primary_sweep()
     ensures { PrimarySweep }
 {}

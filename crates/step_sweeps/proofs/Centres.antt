@@ -5,11 +5,13 @@ use Rattle.std.proofs.lemmas.Bool.{ltb-true, lt-ltb, false≢true}
 use Rattle.peano_keys.specs.declared.cell.CellKey.{CellKey}
 use Rattle.peano_keys.specs.declared.dim.Dim.{Dim}
 use Rattle.peano_keys.specs.declared.dim.Dim.TheVariants.{Two, Three}
+use Rattle.peano_keys.specs.Dim.{children}
 use Rattle.peano_keys.specs.Cell.{IsCell, at, triple, parent_of, centre_child}
 use Rattle.peano_keys.specs.Grid.{Spacetree, is_refined}
 use Rattle.peano_curve.specs.declared.order.Direction.{Direction}
 use Rattle.peano_curve.specs.declared.order.Direction.TheVariants.{Forward, Backward}
-use Rattle.peano_curve.specs.Order.{children, counted, turned, nth_child, child_along, place_along}
+use Rattle.stack_law.specs.Digits.{turned}
+use Rattle.peano_curve.specs.Order.{counted, nth_child, child_along, place_along}
 use Rattle.peano_curve.proofs.Splits.{turned_below}
 use Rattle.spacetree.proofs.Children.{parent_of_child}
 use Rattle.sweep_visits.specs.Plan.{SweepPlan, IsSweepPlan, IsOldGrid, dim_of, is_refined_in, is_visited, is_opened}

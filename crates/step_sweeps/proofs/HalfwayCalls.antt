@@ -14,16 +14,17 @@ use Rattle.peano_curve.specs.declared.order.Direction.{Direction}
 use Rattle.peano_records.specs.declared.slot.Slot.{Slot}
 use Rattle.peano_records.specs.declared.stored.Stored.{Stored}
 use Rattle.peano_records.specs.declared.view.CellView.{CellView}
-use Rattle.peano_records.specs.declared.view.Corner.TheVariants.{Vertex}
+use Rattle.peano_records.specs.declared.view.Corner.{Corner}
+use Rattle.peano_records.specs.declared.view.Corner.TheVariants.{Vertex, Hanging, Beyond}
+use Rattle.peano_keys.proofs.Positions.{cell_stands_in_slot}
 use Rattle.peano_records.specs.Slots.{slot_at}
 use Rattle.peano_records.specs.Tells.{corner_at}
-use Rattle.hanging_nodes.proofs.TwoGrids.{leaf_of}
 use Rattle.curve_cuts.specs.Cuts.{Cuts, IsCutGrid, Owns}
 use Rattle.curve_cuts.specs.Keys.{CutPoints, cuts_of}
 use Rattle.adapt_marks.specs.Views.{IsCentre}
 use Rattle.sweep_visits.specs.Visits.{Visit}
 use Rattle.tree_automaton.specs.Sweep.{TreeSweep}
-use Rattle.tree_automaton.specs.Promises.{Keeps}
+use Rattle.tree_automaton.specs.Promises.{Keeps, SameCorner}
 use Rattle.tree_automaton.specs.Views.{CornerFits, ViewFits}
 use Rattle.step_phases.specs.Change.{Change, Gives}
 use Rattle.step_phases.proofs.Grids.{level_in}
@@ -39,30 +40,26 @@ use Rattle.step_sweeps.specs.declared.centre.Centre.{Centre}
 use Rattle.step_sweeps.specs.declared.told.Told.{Told}
 use Rattle.step_sweeps.specs.Told.{told_slot, told_record, IsTold}
 use Rattle.step_sweeps.specs.Kernels.{IsOwnLeaf}
-use Rattle.step_sweeps.specs.Secondaries.{SecondaryWork, SecondaryEnters, RefinedLeft, CentreTells, DecidesSplit, IsOwnRefined, centre_at, leaf_intends, refined_intends, next_at_home}
+use Rattle.step_sweeps.specs.Secondaries.{SecondaryWork, RefinedLeft, CentreTells, DecidesSplit, IsOwnRefined, centre_at, refined_intends, next_at_home}
 use Rattle.step_sweeps.proofs.OwnSlots.{record_told, told_changes, changes_less, changes_none}
 use Rattle.step_sweeps.proofs.Plain.{leaf_shown, leaf_seen, refined_shown, refined_seen}
 use Rattle.step_sweeps.proofs.Centres.{is_centre_in}
 use Rattle.step_sweeps.proofs.OwnCounts.{IsCounted}
-use Rattle.step_sweeps.proofs.HalfwaySlots.{Halfway, Works, leaf_works, refined_works, passed_works}
+use Rattle.step_sweeps.proofs.HalfwaySlots.{Halfway, Works, refined_works, passed_works}
 use Rattle.step_sweeps.proofs.HalfwayViews.{IsKnown, plain_sweep, shows_marks, works_leave, next_from_home}
 
--- a call keeps the visitor's keys, its tree and its memory
-abbrev pub KeepsMemory : SecondaryWork → SecondaryWork → Type 0
-KeepsMemory a b = (b.keys ≡ a.keys) × (b.tree ≡ a.tree) × (b.centres ≡ a.centres)
+-- a call keeps the visitor's keys, its tree, its memory and its solver
+abbrev pub KeepsMemory : {S : Type 0} → SecondaryWork S → SecondaryWork S → Type 0
+KeepsMemory a b = (b.keys ≡ a.keys) × (b.tree ≡ a.tree) × (b.centres ≡ a.centres) × (b.solver ≡ a.solver)
 
-kept_by : (a b c : SecondaryWork) → b ≡ c → KeepsMemory a c → KeepsMemory a b
+pub kept_by : {S : Type 0} (a b c : SecondaryWork S) → b ≡ c → KeepsMemory a c → KeepsMemory a b
 kept_by a b c e h = subst (KeepsMemory a) (sym e) h
 
-pub enter_keeps : (a : SecondaryWork) (v u : CellView) (b : SecondaryWork) → SecondaryEnters a v u b → KeepsMemory a b
-enter_keeps a v u b (inl h) = kept_by a b _ h.counted (refl, refl, refl)
-enter_keeps a v u b (inr h) = kept_by a b a h.1.same (refl, refl, refl)
+pub refined_keeps : {S : Type 0} (a : SecondaryWork S) (v u : CellView) (b : SecondaryWork S) → RefinedLeft a v u b → KeepsMemory a b × (b.failing ≡ a.failing) × (b.tasks ≡ a.tasks)
+refined_keeps a v u b (inl h) = (kept_by a b _ h.counted (refl, refl, refl, refl), ap (λ (x : SecondaryWork _). x.failing) h.counted, ap (λ (x : SecondaryWork _). x.tasks) h.counted)
+refined_keeps a v u b (inr h) = (kept_by a b a h.1.same (refl, refl, refl, refl), ap (λ (x : SecondaryWork _). x.failing) h.1.same, ap (λ (x : SecondaryWork _). x.tasks) h.1.same)
 
-pub refined_keeps : (a : SecondaryWork) (v u : CellView) (b : SecondaryWork) → RefinedLeft a v u b → KeepsMemory a b
-refined_keeps a v u b (inl h) = kept_by a b _ h.counted (refl, refl, refl)
-refined_keeps a v u b (inr h) = kept_by a b a h.1.same (refl, refl, refl)
-
-module _ (start : SecondaryWork) (w : Change) (dir : Direction) (f : States) (number : ℕ) (task : CellKey → ℕ) where
+module _ {S : Type 0} (start : SecondaryWork S) (w : Change) (dir : Direction) (f : States) (number : ℕ) (task : CellKey → ℕ) where
   abbrev k : Cuts
   k = cuts_of start.keys
 
@@ -75,12 +72,12 @@ module _ (start : SecondaryWork) (w : Change) (dir : Direction) (f : States) (nu
   abbrev p : TreeSweep
   p = plain_sweep k t dir w.old f number task
 
-  -- the visitor is as it began but for its memory and its counts
-  abbrev pub IsSame : SecondaryWork → Type 0
-  IsSame a = (a.keys ≡ start.keys) × (a.tree ≡ start.tree) × (length a.centres ≡ 13)
+  -- the visitor is as it began but for its memory, its counts and what it found
+  abbrev pub IsSame : SecondaryWork S → Type 0
+  IsSame a = (a.keys ≡ start.keys) × (a.tree ≡ start.tree) × (length a.centres ≡ 13) × (a.solver ≡ start.solver)
 
-  pub same_kept : (a b : SecondaryWork) → IsSame a → KeepsMemory a b → IsSame b
-  same_kept a b same kept = (kept.0 ∙ same.0, kept.1 ∙ same.1, ap (λ (l : List Centre). length l) kept.2 ∙ same.2)
+  pub same_kept : (a b : SecondaryWork S) → IsSame a → KeepsMemory a b → IsSame b
+  same_kept a b same kept = (kept.0 ∙ same.0, kept.1 ∙ same.1, ap (λ (l : List Centre). length l) kept.2 ∙ same.2, kept.3 ∙ same.3)
 
   -- what a centre child told: its new value, and whether its parent merges
   pub record Tells (m : CellKey) (x : Centre) : Type 0 where
@@ -88,69 +85,83 @@ module _ (start : SecondaryWork) (w : Change) (dir : Direction) (f : States) (nu
     pub merges : IsTrue x.merges ↔ Merges w.old w.mark (parent_of m)
 
   -- of each level the memory has what the last centre child of the tree's own told
-  abbrev pub HasMemory : List Visit → SecondaryWork → Type 0
+  abbrev pub HasMemory : List Visit → SecondaryWork S → Type 0
   HasMemory so_far a = (l : ℕ) (m : CellKey) → last_left (is_centre_in dim) l None so_far ≡ Some m → Owns k t m → Tells m (centre_at a l)
+
+  -- where a leaf of the tree's own is at a corner of its view, it has its new value there
+  abbrev pub HasLeafNext : CellKey → CellView → Type 0
+  HasLeafNext c v = (n : ℕ) (s : Stored) → n < corners dim → corner_at v n ≡ Vertex s → Owns k t c → is_refined w.old c ≡ false → Gives (w.next c) (slot_at s (slot_from dim n)).next
 
   abbrev pub EachChanges : CellKey → (Slot → Slot → Type 0) → CellView → CellView → Type 0
   EachChanges c E v u = (n : ℕ) (s r : Stored) → n < corners dim → corner_at v n ≡ Vertex s → corner_at u n ≡ Vertex r → ChangesOneCell dim c E s r
 
   module _ (fits : IsCutGrid k w.old) (next : IsNextGrid w.old w.mark w.new) (takes : TakesCentre w) where
-    dim_is : (a : SecondaryWork) → a.keys ≡ start.keys → a.keys.dim ≡ dim
+    pub dim_is : (a : SecondaryWork S) → a.keys ≡ start.keys → a.keys.dim ≡ dim
     dim_is a same = ap (λ (x : CutPoints). x.dim) same ∙ sym fits.dim
 
-    module _ (c : CellKey) (v u : CellView) (view : ViewFits p c v) (keeps : Keeps v u) (cell : IsCell dim c) (there : has_cell w.old c ≡ true) (known : EachVertex p (IsKnown w) v) where
-      told_works : (leaving : Bool) (what : Told) → IsTold dim what v u → ((x y : Slot) → y ≡ told_slot what x → Works k w t leaving c x y) → EachChanges c (Works k w t leaving c) v u
+    module _ (c : CellKey) (v u : CellView) (view : ViewFits p c v) (keeps : Keeps v u) (cell : IsCell dim c) (there : has_cell w.old c ≡ true) (known : EachVertex p (IsKnown k w) v) where
+      pub told_works : (leaving : Bool) (what : Told) → IsTold dim what v u → ((x y : Slot) → y ≡ told_slot what x → Works k w t leaving c x y) → EachChanges c (Works k w t leaving c) v u
       told_works leaving what told each n s r below at to =
           let corner : CornerFits p (corner_of c n) (Vertex s) = subst (CornerFits p (corner_of c n)) at (view.each n below) in
           subst (ChangesOneCell dim c (Works k w t leaving c) s) (sym (record_told dim what v u told n s r below at to))
           (changes_less dim c (λ x y. y ≡ told_slot what x) (Works k w t leaving c) s (told_record dim what n s) each (told_changes dim what c n s cell below corner.0 corner.1.eight))
 
-      passed_by : (leaving : Bool) → u ≡ v → (Owns k t c → is_refined w.old c ≡ leaving → ⊥) → EachChanges c (Works k w t leaving c) v u
+      pub passed_by : (leaving : Bool) → u ≡ v → (Owns k t c → is_refined w.old c ≡ leaving → ⊥) → EachChanges c (Works k w t leaving c) v u
       passed_by leaving same none n s r below at to = changes_none dim c (Works k w t leaving c) s r (one_record (corner_at u n) s r (ap (λ (x : CellView). corner_at x n) same ∙ at) to) (passed_works k w t next c leaving none)
 
       -- the view of a leaf of the tree's own, as the visitor tells it
-      own_leaf : (a : SecondaryWork) → IsSame a → Owns k t c → is_leaf w.old c ≡ true → IsOwnLeaf (cuts_of a.keys) a.tree v
+      pub own_leaf : (a : SecondaryWork S) → IsSame a → Owns k t c → is_leaf w.old c ≡ true → IsOwnLeaf (cuts_of a.keys) a.tree v
       own_leaf a same owns leaf =
           let own : IsOwnLeaf k t v = record { leaf = leaf_seen p refl refl c v view leaf; level = subst (λ (q : CellKey). q.level ≤ k.depth) (sym view.view.key) (level_in k w.old c fits there); owns = subst (Owns k t) (sym view.view.key) owns } in
           subst (λ (x : CutPoints). IsOwnLeaf (cuts_of x) a.tree v) (sym same.0) (subst (λ n. IsOwnLeaf k n v) (sym same.1) own)
 
-      leaf_own : (a : SecondaryWork) → IsSame a → IsOwnLeaf (cuts_of a.keys) a.tree v → Owns k t c × (is_leaf w.old c ≡ true)
+      pub leaf_own : (a : SecondaryWork S) → IsSame a → IsOwnLeaf (cuts_of a.keys) a.tree v → Owns k t c × (is_leaf w.old c ≡ true)
       leaf_own a same h =
           let own : IsOwnLeaf k t v = subst (λ n. IsOwnLeaf k n v) same.1 (subst (λ (x : CutPoints). IsOwnLeaf (cuts_of x) a.tree v) same.0 h) in
           (subst (Owns k t) view.view.key own.owns, leaf_shown p refl refl c v view own.leaf)
 
       -- and that of a refined cell
-      own_refined : (a : SecondaryWork) → IsSame a → Owns k t c → is_refined w.old c ≡ true → IsOwnRefined (cuts_of a.keys) a.tree v
+      own_refined : (a : SecondaryWork S) → IsSame a → Owns k t c → is_refined w.old c ≡ true → IsOwnRefined (cuts_of a.keys) a.tree v
       own_refined a same owns refined =
           let own : IsOwnRefined k t v = record { refined = refined_seen p refl refl c v view there refined; level = subst (λ (q : CellKey). q.level < k.depth) (sym view.view.key) (fits.grid.levels c refined); owns = subst (Owns k t) (sym view.view.key) owns } in
           subst (λ (x : CutPoints). IsOwnRefined (cuts_of x) a.tree v) (sym same.0) (subst (λ n. IsOwnRefined k n v) (sym same.1) own)
 
-      refined_own : (a : SecondaryWork) → IsSame a → IsOwnRefined (cuts_of a.keys) a.tree v → Owns k t c × (is_refined w.old c ≡ true)
+      refined_own : (a : SecondaryWork S) → IsSame a → IsOwnRefined (cuts_of a.keys) a.tree v → Owns k t c × (is_refined w.old c ≡ true)
       refined_own a same h =
           let own : IsOwnRefined k t v = subst (λ n. IsOwnRefined k n v) same.1 (subst (λ (x : CutPoints). IsOwnRefined (cuts_of x) a.tree v) same.0 h) in
           (subst (Owns k t) view.view.key own.owns, refined_shown p refl refl c v view own.refined)
 
       -- a leaf's view decides whether it splits
-      split_is : (b : Bool) → DecidesSplit v b → IsTrue b ↔ Splits w.old w.mark c
+      pub split_is : (b : Bool) → DecidesSplit v b → IsTrue b ↔ Splits w.old w.mark c
       split_is b decides = subst (λ q. IsTrue b ↔ Splits w.old w.mark q) view.view.key (decides w.old w.mark (shows_marks k w t dir f number task c v v view (keeps_itself v) cell known))
 
       -- what the memory has for a refined cell
-      abbrev pub Found : SecondaryWork → Type 0
+      abbrev pub Found : SecondaryWork S → Type 0
       Found a = is_refined w.old c ≡ true → Owns k t c → Tells (centre_child dim c) (centre_at a (c.level + 1))
 
-      found_at : (a : SecondaryWork) → Found a → is_refined w.old c ≡ true → Owns k t c → Tells (centre_child dim c) (centre_at a (v.key.level + 1))
+      found_at : (a : SecondaryWork S) → Found a → is_refined w.old c ≡ true → Owns k t c → Tells (centre_child dim c) (centre_at a (v.key.level + 1))
       found_at a found refined owns = subst (λ (q : CellKey). Tells (centre_child dim c) (centre_at a (q.level + 1))) (sym view.view.key) (found refined owns)
 
       merge_is : (x : Centre) → Tells (centre_child dim c) x → IsTrue x.merges ↔ Merges w.old w.mark c
       merge_is x tells = subst (λ q. IsTrue x.merges ↔ Merges w.old w.mark q) (own_parent dim c cell) tells.merges
 
-      -- as a cell is entered
-      pub enter_works : (a b : SecondaryWork) → IsSame a → SecondaryEnters a v u b → EachChanges c (Works k w t false c) v u
-      enter_works a b same (inl h) = told_works false (leaf_intends h.split) (subst (λ d. IsTold d (leaf_intends h.split) v u) (dim_is a same.0) h.told) (leaf_works k w t next c h.split (split_is h.split h.decides) (leaf_own a same h.own).1)
-      enter_works a b same (inr h) = passed_by false h.1.view (λ owns plain. h.0 (own_leaf a same owns (leaf_of w.old c there plain)))
+      -- a leaf that was told its new value has it at each corner
+      pub leaf_has : EachChanges c (SecondaryCall k w t false c) v u → HasLeafNext c u
+      leaf_has changes n r below to owns plain = by (corner_at v n) refl (subst (SameCorner (corner_at v n)) to (keeps.corners_stay n))
+        where
+          own : ℕ
+          own = slot_from dim n
+
+          by : (x : Corner) → corner_at v n ≡ x → SameCorner x (Vertex r) → Gives (w.next c) (slot_at r own).next
+          by (Vertex s) at same =
+              let corner : CornerFits p (corner_of c n) (Vertex s) = subst (CornerFits p (corner_of c n)) at (view.each n below) in
+              let stands : adjacent_of dim s.key own ≡ Some c = subst (λ q. adjacent_of dim q own ≡ Some c) (sym corner.0) (cell_stands_in_slot dim c n cell below) in
+              ((changes n s r below at to).own own (slot_below dim n) stands).next owns plain
+          by (Hanging q) at same = absurd same
+          by Beyond at same = absurd same
 
       -- as it is left, where the memory has what its centre child told
-      pub leave_works : (a m : SecondaryWork) → IsSame a → Found a → RefinedLeft a v u m → EachChanges c (Works k w t true c) v u
+      pub leave_works : (a m : SecondaryWork S) → IsSame a → Found a → RefinedLeft a v u m → EachChanges c (Works k w t true c) v u
       leave_works a m same found (inl h) =
           let own = refined_own a same h.own in
           let x : Centre = centre_at a (v.key.level + 1) in
@@ -159,34 +170,23 @@ module _ (start : SecondaryWork) (w : Change) (dir : Direction) (f : States) (nu
           told_works true (refined_intends x) (subst (λ d. IsTold d (refined_intends x) v u) (dim_is a same.0) h.told) (refined_works k w t next c x gives (merge_is x tells) own.1)
       leave_works a m same found (inr h) = passed_by true h.1.view (λ owns refined. h.0 (own_refined a same owns refined))
 
-      -- a leaf of the tree's own that splits is counted as it is entered
-      pub enter_counts : (a b : SecondaryWork) → IsSame a → SecondaryEnters a v u b → IsCounted (Owns k t c × Splits w.old w.mark c) a.splits b.splits × (b.merges ≡ a.merges)
-      enter_counts a b same (inl h) = (
-        record { passes = h.split; is = ((λ e. ((leaf_own a same h.own).0, (split_is h.split h.decides).0 e)), (λ s. (split_is h.split h.decides).1 s.1)); count = ap (λ (x : SecondaryWork). x.splits) h.counted },
-        ap (λ (x : SecondaryWork). x.merges) h.counted,
-      )
-      enter_counts a b same (inr h) = (
-        record { passes = false; is = ((λ e. absurd (false≢true e)), (λ s. absurd (h.0 (own_leaf a same s.0 s.1.leaf)))); count = ap (λ (x : SecondaryWork). x.splits) h.1.same },
-        ap (λ (x : SecondaryWork). x.merges) h.1.same,
-      )
-
-      -- and a refined cell of its own that merges as it is left
-      pub leave_counts : (a m : SecondaryWork) → IsSame a → Found a → RefinedLeft a v u m → IsCounted (Owns k t c × Merges w.old w.mark c) a.merges m.merges × (m.splits ≡ a.splits)
+      -- a refined cell of the tree's own that merges is counted as it is left
+      pub leave_counts : (a m : SecondaryWork S) → IsSame a → Found a → RefinedLeft a v u m → IsCounted (Owns k t c × Merges w.old w.mark c) a.merges m.merges × (m.splits ≡ a.splits)
       leave_counts a m same found (inl h) =
           let own = refined_own a same h.own in
           let x : Centre = centre_at a (v.key.level + 1) in
           let is = merge_is x (found_at a found own.1 own.0) in (
-            record { passes = x.merges; is = ((λ e. (own.0, is.0 e)), (λ s. is.1 s.1)); count = ap (λ (y : SecondaryWork). y.merges) h.counted },
-            ap (λ (y : SecondaryWork). y.splits) h.counted,
+            record { passes = x.merges; is = ((λ e. (own.0, is.0 e)), (λ s. is.1 s.1)); count = ap (λ (y : SecondaryWork S). y.merges) h.counted },
+            ap (λ (y : SecondaryWork S). y.splits) h.counted,
           )
       leave_counts a m same found (inr h) = (
-        record { passes = false; is = ((λ e. absurd (false≢true e)), (λ s. absurd (h.0 (own_refined a same s.0 s.1.refined)))); count = ap (λ (x : SecondaryWork). x.merges) h.1.same },
-        ap (λ (x : SecondaryWork). x.splits) h.1.same,
+        record { passes = false; is = ((λ e. absurd (false≢true e)), (λ s. absurd (h.0 (own_refined a same s.0 s.1.refined)))); count = ap (λ (x : SecondaryWork S). x.merges) h.1.same },
+        ap (λ (x : SecondaryWork S). x.splits) h.1.same,
       )
 
       -- what the cell tells as a centre child is so
-      pub centre_is : EachChanges c (Works k w t true c) v u → (m b : SecondaryWork) → m.keys ≡ start.keys → (h : CentreTells m u b) → Owns k t c → Tells c (record { next = next_at_home m.keys.dim u; merges = h.merges })
-      centre_is works m b same h owns = record {
+      pub centre_is : EachChanges c (Works k w t true c) v u → HasLeafNext c v → (m b : SecondaryWork S) → m.keys ≡ start.keys → (h : CentreTells m u b) → Owns k t c → Tells c (record { next = next_at_home m.keys.dim u; merges = h.merges })
+      centre_is works has m b same h owns = record {
         next = subst (λ d. Gives (w.next c) (next_at_home d u)) (sym (dim_is m same)) (next_from_home k w t dir f number task c v u view keeps cell there (λ s. Gives (w.next c) s) at_home);
         merges = subst (λ q. IsTrue h.merges ↔ Merges w.old w.mark (parent_of q)) (keeps.key ∙ view.view.key)
             (h.decides w.old w.mark (subst (λ d. IsCentre d u.key) (dim_is m same) h.centre) (shows_marks k w t dir f number task c v u view keeps cell (works_leave k w t dir f number task c v u view keeps cell true known works)));
@@ -202,9 +202,10 @@ module _ (start : SecondaryWork) (w : Change) (dir : Direction) (f : States) (nu
           at_home s r at to =
               let corner : CornerFits p (corner_of c home) (Vertex s) = subst (CornerFits p (corner_of c home)) at (view.each home (home_below dim c)) in
               let stands : adjacent_of dim s.key own ≡ Some c = subst (λ q. adjacent_of dim q own ≡ Some c) (sym corner.0) (home_stands dim c cell) in
+              let before : is_refined w.old c ≡ false → Gives (w.next c) (slot_at s own).next = λ plain. has home s (home_below dim c) at owns plain in
               let done = (works home s r (home_below dim c) at to).own own (slot_below dim home) stands ((known home s (home_below dim c) at).says own c (slot_below dim home) stands) in
-              by done (is_refined w.old c) refl
+              by before done (is_refined w.old c) refl
             where
-              by : Halfway w c (slot_at r own) × SecondaryCall k w t true c (slot_at s own) (slot_at r own) → (b : Bool) → is_refined w.old c ≡ b → Gives (w.next c) (slot_at r own).next
-              by done true e = done.1.next owns e
-              by done false e = done.0.next (leaf_of w.old c there e)
+              by : (is_refined w.old c ≡ false → Gives (w.next c) (slot_at s own).next) → Halfway k w c (slot_at r own) × SecondaryCall k w t true c (slot_at s own) (slot_at r own) → (b : Bool) → is_refined w.old c ≡ b → Gives (w.next c) (slot_at r own).next
+              by before done true e = done.1.next owns e
+              by before done false e = subst (λ (x : Slot). Gives (w.next c) x.next) (sym (done.1.kept (λ refined. false≢true (sym e ∙ refined)))) (before e)

@@ -18,7 +18,7 @@ use Rattle.step_sweeps.proofs.OwnSlots.{some_same}
 use Rattle.step_sweeps.proofs.Centres.{is_centre_in}
 use Rattle.step_sweeps.proofs.HalfwayCalls.{KeepsMemory, HasMemory, Tells}
 
-module _ (start : SecondaryWork) (w : Change) (dir : Direction) (f : States) (number : ℕ) (task : CellKey → ℕ) where
+module _ {S : Type 0} (start : SecondaryWork S) (w : Change) (dir : Direction) (f : States) (number : ℕ) (task : CellKey → ℕ) where
   abbrev k : Cuts
   k = cuts_of start.keys
 
@@ -28,18 +28,18 @@ module _ (start : SecondaryWork) (w : Change) (dir : Direction) (f : States) (nu
   abbrev dim : Dim
   dim = w.old.dim
 
-  abbrev Memory : List Visit → SecondaryWork → Type 0
+  abbrev Memory : List Visit → SecondaryWork S → Type 0
   Memory so_far a = HasMemory start w dir f number task so_far a
 
   abbrev IsTelling : CellKey → Centre → Type 0
   IsTelling m x = Tells start w dir f number task m x
 
   -- the memory after an enter
-  pub memory_entered : (so_far : List Visit) (c : CellKey) (a b : SecondaryWork) → KeepsMemory a b → Memory so_far a → Memory (so_far ++ enter c ∷ []) b
+  pub memory_entered : (so_far : List Visit) (c : CellKey) (a b : SecondaryWork S) → KeepsMemory a b → Memory so_far a → Memory (so_far ++ enter c ∷ []) b
   memory_entered so_far c a b kept memory l m e owns = subst (λ cs. IsTelling m (slice_index_or cs l nothing_told)) (sym kept.2) (memory l m (sym (last_append (is_centre_in dim) l None so_far (enter c ∷ [])) ∙ e) owns)
 
   -- after the leave of a cell that is no centre child
-  pub memory_passed : (so_far : List Visit) (c : CellKey) (a b : SecondaryWork) → KeepsMemory a b → is_centre_in dim c ≡ false → Memory so_far a → Memory (so_far ++ leave c ∷ []) b
+  pub memory_passed : (so_far : List Visit) (c : CellKey) (a b : SecondaryWork S) → KeepsMemory a b → is_centre_in dim c ≡ false → Memory so_far a → Memory (so_far ++ leave c ∷ []) b
   memory_passed so_far c a b kept none memory l m e owns = subst (λ cs. IsTelling m (slice_index_or cs l nothing_told)) (sym kept.2) (memory l m (sym (last_append (is_centre_in dim) l None so_far (leave c ∷ []) ∙ stays) ∙ e) owns)
     where
       before : Option CellKey
@@ -49,7 +49,7 @@ module _ (start : SecondaryWork) (w : Change) (dir : Direction) (f : States) (nu
       stays = ⊎_elim (λ same. its_level (is_centre_in dim) l c before false same none) (λ apart. other_level (is_centre_in dim) l c before apart) (cases_eq c.level l)
 
   -- and after that of a centre child, which tells something
-  pub memory_told : (so_far : List Visit) (c : CellKey) (a b : SecondaryWork) (x : Centre) → b.centres ≡ slice_set a.centres c.level x → length a.centres ≡ 13 → c.level ≤ 12 → is_centre_in dim c ≡ true → (Owns k t c → IsTelling c x) → Memory so_far a → Memory (so_far ++ leave c ∷ []) b
+  pub memory_told : (so_far : List Visit) (c : CellKey) (a b : SecondaryWork S) (x : Centre) → b.centres ≡ slice_set a.centres c.level x → length a.centres ≡ 13 → c.level ≤ 12 → is_centre_in dim c ≡ true → (Owns k t c → IsTelling c x) → Memory so_far a → Memory (so_far ++ leave c ∷ []) b
   memory_told so_far c a b x set_is size level centre tells memory l m e owns = subst (λ cs. IsTelling m (slice_index_or cs l nothing_told)) (sym set_is) (⊎_elim same other (cases_eq c.level l))
     where
       before : Option CellKey

@@ -1,9 +1,10 @@
 -- What is told in a secondary sweep, slot by slot.
 use Rattle.std.proofs.Common.{◌≡◌, ◌↔◌, ℕ, Bool, true, false, if◌then◌else◌, Option, Some, refl, ap, sym, ◌∙◌, subst, inr}
-use Rattle.std.specs.Prelude.{IsTrue}
+use Rattle.std.specs.Prelude.{IsTrue, unwrap_or}
 use Rattle.std.proofs.lemmas.Bool.{false≢true}
 use Rattle.peano_keys.specs.declared.cell.CellKey.{CellKey}
 use Rattle.peano_keys.specs.declared.dim.Dim.{Dim}
+use Rattle.peano_keys.specs.declared.state.State.{State}
 use Rattle.peano_keys.specs.declared.vertex.VertexKey.{VertexKey}
 use Rattle.peano_keys.specs.declared.side.Mark.{Mark}
 use Rattle.peano_keys.specs.Vertex.{adjacent_of}
@@ -18,6 +19,7 @@ use Rattle.peano_records.specs.Slots.{VertexRecord, slot_at}
 use Rattle.peano_records.specs.AtRest.{SaysOfCells, status_of}
 use Rattle.hanging_nodes.proofs.TwoGrids.{leaf_not}
 use Rattle.curve_cuts.specs.Cuts.{Cuts, Owns}
+use Rattle.curve_cuts.specs.Enclave.{IsSkeleton}
 use Rattle.sweep_visits.specs.Moves.{same_cell}
 use Rattle.sweep_visits.proofs.Same.{cells_decided}
 use Rattle.step_phases.specs.Change.{Change, Gives}
@@ -30,17 +32,16 @@ use Rattle.step_calls.specs.Visitors.{SecondaryCall}
 use Rattle.swept_slots.specs.Changes.{ChangesOneCell}
 use Rattle.step_sweeps.specs.declared.centre.Centre.{Centre}
 use Rattle.step_sweeps.specs.Told.{intent_told, told_slot}
-use Rattle.step_sweeps.specs.Primaries.{every_leaf}
 use Rattle.step_sweeps.specs.Secondaries.{leaf_intends, refined_intends}
 use Rattle.step_sweeps.proofs.OwnSlots.{some_same}
 
--- at each moment of a secondary sweep a slot shows the grid and the marks, and that of a leaf has its new value
-pub record Halfway (w : Change) (c : CellKey) (s : Slot) : Type 0 where
+-- at each moment of a secondary sweep a slot shows the grid and the marks, and that of a skeleton leaf has its new value
+pub record Halfway (k : Cuts) (w : Change) (c : CellKey) (s : Slot) : Type 0 where
   pub shows : InSecondary w c s
-  pub next : is_leaf w.old c ≡ true → HasNext w c s
+  pub next : (t : ℕ) → IsSkeleton k w.old t c → HasNext w c s
 
-pub first_is_halfway : (w : Change) (c : CellKey) (s : Slot) → AfterFirst w every_leaf c s → Halfway w c s
-first_is_halfway w c s h = record { shows = secondary_begins w every_leaf c s h; next = λ leaf. h.next leaf refl }
+pub first_is_halfway : (k : Cuts) (w : Change) (c : CellKey) (s : Slot) → AfterFirst k w c s → Halfway k w c s
+first_is_halfway k w c s h = record { shows = secondary_begins k w c s h; next = h.next }
 
 -- no cell is both a leaf and refined
 not_both : (g : Spacetree) (c : CellKey) → is_leaf g c ≡ true → is_refined g c ≡ true → ⊥
@@ -65,17 +66,17 @@ merge_is_intent g marks c refined false is = record { split = λ s. absurd (not_
 
 -- a call keeps a slot halfway, and does what is asked of it
 abbrev pub Works : Cuts → Change → ℕ → Bool → CellKey → Slot → Slot → Type 0
-Works k w t leaving c x y = Halfway w c x → Halfway w c y × SecondaryCall k w t leaving c x y
+Works k w t leaving c x y = Halfway k w c x → Halfway k w c y × SecondaryCall k w t leaving c x y
 
 module _ (k : Cuts) (w : Change) (t : ℕ) (next : IsNextGrid w.old w.mark w.new) (c : CellKey) where
-  -- a leaf that is told whether it splits
-  pub leaf_works : (b : Bool) → (IsTrue b ↔ Splits w.old w.mark c) → is_leaf w.old c ≡ true → (x y : Slot) → y ≡ told_slot (leaf_intends b) x → Works k w t false c x y
-  leaf_works b is leaf x y e half =
+  -- a leaf that is told whether it splits, and its new value where its slots do not have it
+  pub leaf_works : (o : Option State) (b : Bool) → ((x : Slot) → Halfway k w c x → Gives (w.next c) (unwrap_or o x.next)) → (IsTrue b ↔ Splits w.old w.mark c) → is_leaf w.old c ≡ true → (x y : Slot) → y ≡ told_slot (leaf_intends o b) x → Works k w t false c x y
+  leaf_works o b gives is leaf x y e half =
       let takes : intent_told (Some (if b then Split else Stay)) x.status x.intent ≡ (if b then Split else Stay) = leaf_takes b x.status x.intent (half.shows.status ∙ ap status_of (leaf_not w.old c leaf)) in
       let intent : IsIntentOf w.old w.mark c (intent_told (Some (if b then Split else Stay)) x.status x.intent) = subst (IsIntentOf w.old w.mark c) (sym takes) (split_is_intent w.old w.mark c leaf b is) in
-      subst (λ z. Halfway w c z × SecondaryCall k w t false c x z) (sym e) (
-        record { shows = record { status = half.shows.status; mark = half.shows.mark; intent = inr (intent_between_grids w.old w.new w.mark c (intent_told (Some (if b then Split else Stay)) x.status x.intent) next intent) }; next = half.next },
-        record { status = refl; value = refl; mark = refl; next = λ owns plain. half.next leaf; intent = λ owns plain. intent; kept = λ apart. absurd (apart (leaf_not w.old c leaf)) },
+      subst (λ z. Halfway k w c z × SecondaryCall k w t false c x z) (sym e) (
+        record { shows = record { status = half.shows.status; mark = half.shows.mark; intent = inr (intent_between_grids w.old w.new w.mark c (intent_told (Some (if b then Split else Stay)) x.status x.intent) next intent) }; next = λ s skeleton. gives x half },
+        record { status = refl; value = refl; mark = refl; next = λ owns plain. gives x half; intent = λ owns plain. intent; kept = λ apart. absurd (apart (leaf_not w.old c leaf)) },
       )
 
   -- a refined cell that is told its new value and whether it merges
@@ -83,8 +84,8 @@ module _ (k : Cuts) (w : Change) (t : ℕ) (next : IsNextGrid w.old w.mark w.new
   refined_works m gives is refined x y e half =
       let takes : intent_told (Some (if m.merges then Merge else Stay)) x.status x.intent ≡ (if m.merges then Merge else Stay) = refined_takes m.merges x.status x.intent (half.shows.status ∙ ap status_of refined) in
       let intent : IsIntentOf w.old w.mark c (intent_told (Some (if m.merges then Merge else Stay)) x.status x.intent) = subst (IsIntentOf w.old w.mark c) (sym takes) (merge_is_intent w.old w.mark c refined m.merges is) in
-      subst (λ z. Halfway w c z × SecondaryCall k w t true c x z) (sym e) (
-        record { shows = record { status = half.shows.status; mark = half.shows.mark; intent = inr (intent_between_grids w.old w.new w.mark c (intent_told (Some (if m.merges then Merge else Stay)) x.status x.intent) next intent) }; next = λ leaf. absurd (not_both w.old c leaf refined) },
+      subst (λ z. Halfway k w c z × SecondaryCall k w t true c x z) (sym e) (
+        record { shows = record { status = half.shows.status; mark = half.shows.mark; intent = inr (intent_between_grids w.old w.new w.mark c (intent_told (Some (if m.merges then Merge else Stay)) x.status x.intent) next intent) }; next = λ s skeleton. absurd (not_both w.old c skeleton.0.leaf refined) },
         record { status = refl; value = refl; mark = refl; next = λ owns deep. gives; intent = λ owns deep. intent; kept = λ apart. absurd (apart refined) },
       )
 

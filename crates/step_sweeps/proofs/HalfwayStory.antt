@@ -16,7 +16,9 @@ use Rattle.peano_curve.specs.Run.{HoldsCell}
 use Rattle.peano_records.specs.declared.stored.Stored.{Stored}
 use Rattle.peano_records.specs.declared.view.CellView.{CellView}
 use Rattle.curve_cuts.specs.Cuts.{Cuts, IsCutGrid, Owns, range_of}
+use Rattle.curve_cuts.specs.Enclave.{IsEnclave}
 use Rattle.curve_cuts.specs.Keys.{CutPoints, cuts_of}
+use Rattle.spacetree.specs.Fields.{IsFieldOn}
 use Rattle.curve_cuts.proofs.Cuts.{owner_holds, centre_keeps_owner}
 use Rattle.adapt_marks.specs.Views.{IsCentre}
 use Rattle.vertex_stacks.specs.declared.tale.Tale.{Tale}
@@ -38,28 +40,41 @@ use Rattle.step_values.proofs.Centres.{centre_cell, centre_there}
 use Rattle.swept_slots.proofs.Given.{EachVertex, given_hold, along_places}
 use Rattle.swept_slots.proofs.Visited.{among_in, in_among, enter_held}
 use Rattle.step_sweeps.specs.declared.centre.Centre.{Centre}
+use Rattle.step_sweeps.specs.Kernels.{Kernel, IsChangeBy}
 use Rattle.step_sweeps.specs.Secondaries.{SecondaryWork, SecondaryEnters, SecondaryLeaves, CentreLeft, centre_at, next_at_home}
 use Rattle.step_sweeps.proofs.Plain.{view_fits, there_in}
 use Rattle.step_sweeps.proofs.Centres.{is_centre_in, centre_told, centre_tells, last_centre}
 use Rattle.step_sweeps.proofs.HalfwaySlots.{Halfway, Works, changed_said}
 use Rattle.step_sweeps.proofs.HalfwayViews.{IsKnown, plain_sweep, plain_is_plan, none_new, works_leave}
-use Rattle.step_sweeps.proofs.HalfwayCalls.{IsSame, HasMemory, EachChanges, Tells, same_kept, enter_keeps, refined_keeps, enter_works, leave_works, centre_is, enter_counts, leave_counts}
+use Rattle.step_sweeps.proofs.HalfwayCalls.{IsSame, HasLeafNext, HasMemory, EachChanges, Tells, same_kept, refined_keeps, leaf_has, leave_works, centre_is, leave_counts}
+use Rattle.step_sweeps.proofs.HalfwayLeaves.{enter_keeps, enter_works, enter_counts, enter_finds, enter_gathers}
 use Rattle.step_sweeps.proofs.HalfwayMemory.{memory_entered, memory_passed, memory_told}
+use Rattle.step_world.specs.Failing.{FailsAmong}
+use Rattle.step_sweeps.proofs.LeastFailing.{Among, none_fails}
+use Rattle.step_sweeps.proofs.GatherCounts.{HaveGathered, none_gathered}
 use Rattle.step_sweeps.proofs.OwnCounts.{HaveCounted, none_counted, counted_more, not_before, flat_at, false_by}
 
 -- what is so of each call of a list and of one more
 pub each_more : (P : Call → Type 0) (xs : List Call) (x : Call) → ((call : Call) → IsAmong call xs → P call) → P x → (call : Call) → IsAmong call (xs ++ x ∷ []) → P call
 each_more P xs x old new call among = ⊎_elim (λ h. old call (in_among call xs h)) (λ h. ⊎_elim (λ e. subst P (sym e) new) (λ none. absurd none) h) (in_either call xs (x ∷ []) (among_in call (xs ++ x ∷ []) among))
 
--- what a centre child tells changes no count
-centre_counts : (m : SecondaryWork) (u : CellView) (b : SecondaryWork) → CentreLeft m u b → (b.splits ≡ m.splits) × (b.merges ≡ m.merges)
-centre_counts m u b (inl h) = (ap (λ (x : SecondaryWork). x.splits) h.told, ap (λ (x : SecondaryWork). x.merges) h.told)
-centre_counts m u b (inr h) = (ap (λ (x : SecondaryWork). x.splits) h.1, ap (λ (x : SecondaryWork). x.merges) h.1)
+-- the cell that is entered is one, and none that is left
+same_enter : (c q : CellKey) → enter c ≡ enter q → c ≡ q
+same_enter c q e = ap (λ (v : Visit). elim v as (λ _. CellKey) [ enter x ↦ x | leave x ↦ x ]) e
 
-module _ (start : SecondaryWork) (w : Change) (dir : Direction) (f : States) (number : ℕ) (task : CellKey → ℕ)
-    (fits : IsCutGrid (cuts_of start.keys) w.old) (next : IsNextGrid w.old w.mark w.new) (takes : TakesCentre w) (size : length start.centres ≡ 13) (no_splits : start.splits ≡ 0) (no_merges : start.merges ≡ 0)
+not_enter : (c q : CellKey) → leave c ≡ enter q → ⊥
+not_enter c q e = cc
+
+-- what a centre child tells changes no count
+centre_counts : {S : Type 0} (m : SecondaryWork S) (u : CellView) (b : SecondaryWork S) → CentreLeft m u b → (b.splits ≡ m.splits) × (b.merges ≡ m.merges) × (b.failing ≡ m.failing) × (b.tasks ≡ m.tasks)
+centre_counts m u b (inl h) = (ap (λ (x : SecondaryWork _). x.splits) h.told, ap (λ (x : SecondaryWork _). x.merges) h.told, ap (λ (x : SecondaryWork _). x.failing) h.told, ap (λ (x : SecondaryWork _). x.tasks) h.told)
+centre_counts m u b (inr h) = (ap (λ (x : SecondaryWork _). x.splits) h.1, ap (λ (x : SecondaryWork _). x.merges) h.1, ap (λ (x : SecondaryWork _). x.failing) h.1, ap (λ (x : SecondaryWork _). x.tasks) h.1)
+
+module _ {S : Type 0} (kernel : S → Kernel) (start : SecondaryWork S) (w : Change) (dir : Direction) (f : States) (number : ℕ) (task : CellKey → ℕ)
+    (fits : IsCutGrid (cuts_of start.keys) w.old) (next : IsNextGrid w.old w.mark w.new) (takes : TakesCentre w) (field : IsFieldOn (kernel start.solver).parts w.old f) (by : IsChangeBy (kernel start.solver) w.old f w)
+    (size : length start.centres ≡ 13) (no_splits : start.splits ≡ 0) (no_merges : start.merges ≡ 0) (none_found : start.failing ≡ None)
     (first : List Stored) (tale : Tale) (calls : List Call) (visits_are : map visit_of calls ≡ visits_of (plain_sweep (cuts_of start.keys) start.tree dir w.old f number task).plan)
-    (fit : AllCallsFit (begun (plain_sweep (cuts_of start.keys) start.tree dir w.old f number task) first tale) calls) (input : (s : Stored) → IsAmong s first → IsKnown w s) where
+    (fit : AllCallsFit (begun (plain_sweep (cuts_of start.keys) start.tree dir w.old f number task) first tale) calls) (input : (s : Stored) → IsAmong s first → IsKnown (cuts_of start.keys) w s) where
   abbrev k : Cuts
   k = cuts_of start.keys
 
@@ -88,13 +103,16 @@ module _ (start : SecondaryWork) (w : Change) (dir : Direction) (f : States) (nu
   seen g so_far = flat_map g (map visit_of so_far)
 
   -- after some calls the visitor is the same but for its memory and its counts, which are right; each record is known, and each call did what it is to do
-  pub record IsSoFar (so_far : List Call) (a : SecondaryWork) : Type 0 where
+  pub record IsSoFar (so_far : List Call) (a : SecondaryWork S) : Type 0 where
     pub same : IsSame start w dir f number task a
-    pub known : (call : Call) → IsAmong call so_far → EachVertex p (IsKnown w) call.made
+    pub known : (call : Call) → IsAmong call so_far → EachVertex p (IsKnown (cuts_of start.keys) w) call.made
     pub did : (call : Call) → IsAmong call so_far → Did call.visit call.given call.made
+    pub told : (call : Call) → IsAmong call so_far → (c : CellKey) → call.visit ≡ enter c → HasLeafNext start w dir f number task c call.made
     pub memory : HasMemory start w dir f number task (map visit_of so_far) a
     pub splits : HaveCounted (seen entered_at so_far) (λ c. Owns k t c × Splits w.old w.mark c) a.splits
     pub merges : HaveCounted (seen left_at so_far) (λ c. Owns k t c × Merges w.old w.mark c) a.merges
+    pub failing : FailsAmong (Among (seen entered_at so_far) (IsEnclave k w.old t)) w.next a.failing
+    pub gathered : HaveGathered (seen entered_at so_far) (IsEnclave k w.old t) start.tasks a.tasks
 
   held_cell : (c : CellKey) → IsHeldCell plan (in_grids plan) c → IsCell dim c × (has_cell w.old c ≡ true)
   held_cell c held = (held.cell, there_in (Some w.old) w.old c refl held.passes)
@@ -110,32 +128,32 @@ module _ (start : SecondaryWork) (w : Change) (dir : Direction) (f : States) (nu
       (inside, own, ap₂ (λ a b. a && (b || b)) held there)
 
   -- so a refined cell finds in the memory what its centre child told
-  found : (so_far : List Call) (call : Call) (after : List Call) (a : SecondaryWork) (c : CellKey) → calls ≡ so_far ++ call ∷ after → call.visit ≡ leave c → IsCell dim c → HasMemory start w dir f number task (map visit_of so_far) a → is_refined w.old c ≡ true → Owns k t c → Tells start w dir f number task (centre_child dim c) (centre_at a (c.level + 1))
+  found : (so_far : List Call) (call : Call) (after : List Call) (a : SecondaryWork S) (c : CellKey) → calls ≡ so_far ++ call ∷ after → call.visit ≡ leave c → IsCell dim c → HasMemory start w dir f number task (map visit_of so_far) a → is_refined w.old c ≡ true → Owns k t c → Tells start w dir f number task (centre_child dim c) (centre_at a (c.level + 1))
   found so_far call after a c place is cell memory refined owns =
       let own = centre_own c cell refined owns in
       let visits : visits_of plan ≡ map visit_of so_far ++ leave c ∷ map visit_of after = sym visits_are ∙ (ap (map visit_of) place ∙ (map-append visit_of so_far (call ∷ after) ∙ ap (λ v. map visit_of so_far ++ v ∷ map visit_of after) is)) in
       memory (c.level + 1) (centre_child dim c) (last_centre plan (plain_is_plan k t dir w.old fits) c cell (ap (λ b. b || b) refined) own.0 own.2 (map visit_of so_far) (map visit_of after) visits) own.1
 
   -- what works in the slots of known records changes them as is asked
-  changes : (leaving : Bool) (c : CellKey) (v u : CellView) → EachVertex p (IsKnown w) v → EachChanges start w dir f number task c (Works k w t leaving c) v u → EachChanges start w dir f number task c (SecondaryCall k w t leaving c) v u
-  changes leaving c v u known works n s r below at to = changed_said dim c (Halfway w) (Works k w t leaving c) (SecondaryCall k w t leaving c) s r (works n s r below at to) (known n s below at).says (λ x y half work. (work half).1)
+  changes : (leaving : Bool) (c : CellKey) (v u : CellView) → EachVertex p (IsKnown (cuts_of start.keys) w) v → EachChanges start w dir f number task c (Works k w t leaving c) v u → EachChanges start w dir f number task c (SecondaryCall k w t leaving c) v u
+  changes leaving c v u known works n s r below at to = changed_said dim c (Halfway k w) (Works k w t leaving c) (SecondaryCall k w t leaving c) s r (works n s r below at to) (known n s below at).says (λ x y half work. (work half).1)
 
   -- the memory after the leave of a cell
-  memory_left : (so_far : List Visit) (c : CellKey) (v u : CellView) (view : ViewFits p c v) (keeps : Keeps v u) (cell : IsCell dim c) (there : has_cell w.old c ≡ true) (known : EachVertex p (IsKnown w) v) → EachChanges start w dir f number task c (Works k w t true c) v u → (m b : SecondaryWork) → IsSame start w dir f number task m → CentreLeft m u b → HasMemory start w dir f number task so_far m → IsSame start w dir f number task b × HasMemory start w dir f number task (so_far ++ leave c ∷ []) b
-  memory_left so_far c v u view keeps cell there known works m b same left memory = ⊎_elim
+  memory_left : (so_far : List Visit) (c : CellKey) (v u : CellView) (view : ViewFits p c v) (keeps : Keeps v u) (cell : IsCell dim c) (there : has_cell w.old c ≡ true) (known : EachVertex p (IsKnown (cuts_of start.keys) w) v) → EachChanges start w dir f number task c (Works k w t true c) v u → HasLeafNext start w dir f number task c v → (m b : SecondaryWork S) → IsSame start w dir f number task m → CentreLeft m u b → HasMemory start w dir f number task so_far m → IsSame start w dir f number task b × HasMemory start w dir f number task (so_far ++ leave c ∷ []) b
+  memory_left so_far c v u view keeps cell there known works has m b same left memory = ⊎_elim
       (λ h.
       let x : Centre = record { next = next_at_home m.keys.dim u; merges = h.merges } in
       let key : u.key ≡ c = keeps.key ∙ view.view.key in
-      let set_is : b.centres ≡ slice_set m.centres c.level x = ap (λ (y : SecondaryWork). y.centres) h.told ∙ ap (λ (q : CellKey). slice_set m.centres q.level x) key in
+      let set_is : b.centres ≡ slice_set m.centres c.level x = ap (λ (y : SecondaryWork S). y.centres) h.told ∙ ap (λ (q : CellKey). slice_set m.centres q.level x) key in
       let centre : is_centre_in dim c ≡ true = centre_told dim c (subst (IsCentre dim) key (subst (λ d. IsCentre d u.key) (ap (λ (y : CutPoints). y.dim) same.0 ∙ sym fits.dim) h.centre)) in (
-        (ap (λ (y : SecondaryWork). y.keys) h.told ∙ same.0, ap (λ (y : SecondaryWork). y.tree) h.told ∙ same.1, ap (λ (l : List Centre). length l) set_is ∙ (length-set m.centres c.level x ∙ same.2)),
-        memory_told start w dir f number task so_far c m b x set_is same.2 cell.level centre (centre_is start w dir f number task fits next takes c v u view keeps cell there known works m b same.0 h) memory,
+        (ap (λ (y : SecondaryWork S). y.keys) h.told ∙ same.0, ap (λ (y : SecondaryWork S). y.tree) h.told ∙ same.1, ap (λ (l : List Centre). length l) set_is ∙ (length-set m.centres c.level x ∙ same.2), ap (λ (y : SecondaryWork S). y.solver) h.told ∙ same.3),
+        memory_told start w dir f number task so_far c m b x set_is same.2 cell.level centre (centre_is start w dir f number task fits next takes c v u view keeps cell there known works has m b same.0 h) memory,
       ))
       (λ h.
       let key : u.key ≡ c = keeps.key ∙ view.view.key in
       let none : is_centre_in dim c ≡ false = false_by (is_centre_in dim c) (λ e. h.0 (subst (λ d. IsCentre d u.key) (sym (ap (λ (y : CutPoints). y.dim) same.0 ∙ sym fits.dim)) (subst (IsCentre dim) (sym key) (centre_tells dim c e)))) in (
         subst (IsSame start w dir f number task) (sym h.1) same,
-        memory_passed start w dir f number task so_far c m b (ap (λ (y : SecondaryWork). y.keys) h.1, ap (λ (y : SecondaryWork). y.tree) h.1, ap (λ (y : SecondaryWork). y.centres) h.1) none memory,
+        memory_passed start w dir f number task so_far c m b (ap (λ (y : SecondaryWork S). y.keys) h.1, ap (λ (y : SecondaryWork S). y.tree) h.1, ap (λ (y : SecondaryWork S). y.centres) h.1, ap (λ (y : SecondaryWork S). y.solver) h.1) none memory,
       ))
       left
 
@@ -149,25 +167,33 @@ module _ (start : SecondaryWork) (w : Change) (dir : Direction) (f : States) (nu
   seen_more g so_far call v is = flat_at g so_far call v [] is
 
   -- one call more
-  step_at : (so_far : List Call) (call : Call) (after : List Call) (a b : SecondaryWork) (visit : Visit) → call.visit ≡ visit → calls ≡ so_far ++ call ∷ after → IsSoFar so_far a → CallFits (with_calls begins so_far) visit call.given call.made → Stands SecondaryEnters SecondaryLeaves visit call.given call.made a b → IsSoFar (so_far ++ call ∷ []) b
+  step_at : (so_far : List Call) (call : Call) (after : List Call) (a b : SecondaryWork S) (visit : Visit) → call.visit ≡ visit → calls ≡ so_far ++ call ∷ after → IsSoFar so_far a → CallFits (with_calls begins so_far) visit call.given call.made → Stands (SecondaryEnters kernel) SecondaryLeaves visit call.given call.made a b → IsSoFar (so_far ++ call ∷ []) b
   step_at so_far call after a b (enter c) is place holds entered stands =
       let v = call.given in
       let u = call.made in
       let view : ViewFits p c v = view_fits p refl refl c v entered.view in
-      let here = held_cell c (enter_held p (plain_is_plan k t dir w.old fits) first tale calls visits_are fit c call (record { before = so_far; after = after; place = place }) is) in
-      let known : EachVertex p (IsKnown w) v = given_hold p first tale (IsKnown w) input (none_new k w t dir f number task) so_far holds.known (enter c) v u entered in
-      let works = enter_works start w dir f number task fits next takes c v u view entered.keeps here.0 here.1 known a b holds.same stands in
-      let kept = enter_keeps a v u b stands in
-      let counts = enter_counts start w dir f number task fits next takes c v u view entered.keeps here.0 here.1 known a b holds.same stands in
+      let here_is = held_cell c (enter_held p (plain_is_plan k t dir w.old fits) first tale calls visits_are fit c call (record { before = so_far; after = after; place = place }) is) in
+      let known : EachVertex p (IsKnown (cuts_of start.keys) w) v = given_hold p first tale (IsKnown (cuts_of start.keys) w) input (none_new k w t dir f number task) so_far holds.known (enter c) v u entered in
+      let works = enter_works kernel start w dir f number task fits next takes field by c v u view entered.keeps here_is.0 here_is.1 known a b holds.same stands in
+      let made = changes false c v u known works in
+      let kept = enter_keeps kernel a v u b stands in
+      let counts = enter_counts kernel start w dir f number task fits next takes field by c v u view entered.keeps here_is.0 here_is.1 known a b holds.same stands in
       record {
         same = same_kept start w dir f number task a b holds.same kept;
-        known = each_more (λ (x : Call). EachVertex p (IsKnown w) x.made) so_far call holds.known (works_leave k w t dir f number task c v u view entered.keeps here.0 false known works);
-        did = each_more (λ (x : Call). Did x.visit x.given x.made) so_far call holds.did (subst (λ x. Did x v u) (sym is) (changes false c v u known works));
+        known = each_more (λ (x : Call). EachVertex p (IsKnown (cuts_of start.keys) w) x.made) so_far call holds.known (works_leave k w t dir f number task c v u view entered.keeps here_is.0 false known works);
+        did = each_more (λ (x : Call). Did x.visit x.given x.made) so_far call holds.did (subst (λ x. Did x v u) (sym is) made);
+        told = each_more (λ (x : Call). (q : CellKey) → x.visit ≡ enter q → HasLeafNext start w dir f number task q x.made) so_far call holds.told
+            (λ q here. subst (λ x. HasLeafNext start w dir f number task x u) (same_enter c q (sym is ∙ here)) (leaf_has start w dir f number task fits next takes c v u view entered.keeps here_is.0 here_is.1 known made));
         memory = subst (λ l. HasMemory start w dir f number task l b) (sym (map-append visit_of so_far (call ∷ []) ∙ ap (λ x. map visit_of so_far ++ x ∷ []) is)) (memory_entered start w dir f number task (map visit_of so_far) c a b kept holds.memory);
         splits = subst (λ l. HaveCounted l (λ q. Owns k t q × Splits w.old w.mark q) b.splits) (sym (seen_more entered_at so_far call (enter c) is))
             (counted_more (seen entered_at so_far) (λ q. Owns k t q × Splits w.old w.mark q) c a.splits b.splits (not_seen entered_at so_far call after c (enter c) (each_held_cell_once plan (plain_is_plan k t dir w.old fits)).0.distinct place is refl) holds.splits counts.0);
         merges = subst (λ n. HaveCounted (seen left_at (so_far ++ call ∷ [])) (λ q. Owns k t q × Merges w.old w.mark q) n) (sym counts.1)
             (subst (λ l. HaveCounted l (λ q. Owns k t q × Merges w.old w.mark q) a.merges) (sym (seen_more left_at so_far call (enter c) is ∙ append-nil (seen left_at so_far))) holds.merges);
+        failing = subst (λ l. FailsAmong (Among l (IsEnclave k w.old t)) w.next b.failing) (sym (seen_more entered_at so_far call (enter c) is))
+            (enter_finds kernel start w dir f number task fits next takes field by c v u view entered.keeps here_is.0 here_is.1 known a b (seen entered_at so_far) holds.same stands holds.failing);
+        gathered = subst (λ l. HaveGathered l (IsEnclave k w.old t) start.tasks b.tasks) (sym (seen_more entered_at so_far call (enter c) is))
+            (enter_gathers kernel start w dir f number task fits next takes field by c v u view entered.keeps here_is.0 here_is.1 known a b (seen entered_at so_far)
+            (not_seen entered_at so_far call after c (enter c) (each_held_cell_once plan (plain_is_plan k t dir w.old fits)).0.distinct place is refl) holds.same stands holds.gathered);
       }
   step_at so_far call after a b (leave c) is place holds gone stands =
       let v = call.given in
@@ -176,36 +202,44 @@ module _ (start : SecondaryWork) (w : Change) (dir : Direction) (f : States) (nu
       let among : IsAmong entering so_far = gone.entered.among in
       let here = held_cell c (enter_held p (plain_is_plan k t dir w.old fits) first tale calls visits_are fit c entering
       (record { before = among.before; after = among.after ++ call ∷ after; place = place ∙ (ap (λ l. l ++ call ∷ after) among.place ∙ append_assoc among.before (entering ∷ among.after) (call ∷ after)) }) gone.entered.visit) in
-      let known : EachVertex p (IsKnown w) v = given_hold p first tale (IsKnown w) input (none_new k w t dir f number task) so_far holds.known (leave c) v u gone in
-      let m : SecondaryWork = stands.0 in
+      let known : EachVertex p (IsKnown (cuts_of start.keys) w) v = given_hold p first tale (IsKnown (cuts_of start.keys) w) input (none_new k w t dir f number task) so_far holds.known (leave c) v u gone in
+      let m : SecondaryWork S = stands.0 in
       let works = leave_works start w dir f number task fits next takes c v u gone.view gone.keeps here.0 here.1 known a m holds.same (found so_far call after a c place is here.0 holds.memory) stands.1 in
-      let kept = refined_keeps a v u m stands.1 in
+      let keeps = refined_keeps a v u m stands.1 in
+      let kept = keeps.0 in
       let same = same_kept start w dir f number task a m holds.same kept in
       let memory : HasMemory start w dir f number task (map visit_of so_far) m = λ l q e owns. subst (λ cs. Tells start w dir f number task q (centre_at (record m { centres = cs }) l)) (sym kept.2) (holds.memory l q e owns) in
       let counts = leave_counts start w dir f number task fits next takes c v u gone.view gone.keeps here.0 here.1 known a m holds.same (found so_far call after a c place is here.0 holds.memory) stands.1 in
       let stay = centre_counts m u b stands.2 in
-      let left = memory_left (map visit_of so_far) c v u gone.view gone.keeps here.0 here.1 known works m b same stands.2 memory in
+      let has : HasLeafNext start w dir f number task c v = subst (HasLeafNext start w dir f number task c) (sym gone.entered.same) (holds.told entering among c gone.entered.visit) in
+      let left = memory_left (map visit_of so_far) c v u gone.view gone.keeps here.0 here.1 known works has m b same stands.2 memory in
       record {
         same = left.0;
-        known = each_more (λ (x : Call). EachVertex p (IsKnown w) x.made) so_far call holds.known (works_leave k w t dir f number task c v u gone.view gone.keeps here.0 true known works);
+        known = each_more (λ (x : Call). EachVertex p (IsKnown (cuts_of start.keys) w) x.made) so_far call holds.known (works_leave k w t dir f number task c v u gone.view gone.keeps here.0 true known works);
         did = each_more (λ (x : Call). Did x.visit x.given x.made) so_far call holds.did (subst (λ x. Did x v u) (sym is) (changes true c v u known works));
+        told = each_more (λ (x : Call). (q : CellKey) → x.visit ≡ enter q → HasLeafNext start w dir f number task q x.made) so_far call holds.told
+            (λ q here. absurd (not_enter c q (sym is ∙ here)));
         memory = subst (λ l. HasMemory start w dir f number task l b) (sym (map-append visit_of so_far (call ∷ []) ∙ ap (λ x. map visit_of so_far ++ x ∷ []) is)) left.1;
         splits = subst (λ n. HaveCounted (seen entered_at (so_far ++ call ∷ [])) (λ q. Owns k t q × Splits w.old w.mark q) n) (sym (stay.0 ∙ counts.1))
             (subst (λ l. HaveCounted l (λ q. Owns k t q × Splits w.old w.mark q) a.splits) (sym (seen_more entered_at so_far call (leave c) is ∙ append-nil (seen entered_at so_far))) holds.splits);
         merges = subst (λ l. HaveCounted l (λ q. Owns k t q × Merges w.old w.mark q) b.merges) (sym (seen_more left_at so_far call (leave c) is))
             (subst (λ n. HaveCounted (seen left_at so_far ++ c ∷ []) (λ q. Owns k t q × Merges w.old w.mark q) n) (sym stay.1)
             (counted_more (seen left_at so_far) (λ q. Owns k t q × Merges w.old w.mark q) c a.merges m.merges (not_seen left_at so_far call after c (leave c) (each_held_cell_once plan (plain_is_plan k t dir w.old fits)).1.distinct place is refl) holds.merges counts.0));
+        failing = subst (λ o. FailsAmong (Among (seen entered_at (so_far ++ call ∷ [])) (IsEnclave k w.old t)) w.next o) (sym (stay.2 ∙ keeps.1))
+            (subst (λ l. FailsAmong (Among l (IsEnclave k w.old t)) w.next a.failing) (sym (seen_more entered_at so_far call (leave c) is ∙ append-nil (seen entered_at so_far))) holds.failing);
+        gathered = subst (HaveGathered (seen entered_at (so_far ++ call ∷ [])) (IsEnclave k w.old t) start.tasks) (sym (stay.3 ∙ keeps.2))
+            (subst (λ l. HaveGathered l (IsEnclave k w.old t) start.tasks a.tasks) (sym (seen_more entered_at so_far call (leave c) is ∙ append-nil (seen entered_at so_far))) holds.gathered);
       }
 
   no_call : (call : Call) → IsAmong call [] → ⊥
   no_call call among = among_in call [] among
 
   -- so it is after all calls
-  pub all_told : (end : SecondaryWork) → Chain SecondaryEnters SecondaryLeaves calls start end → IsSoFar calls end
-  all_told end chain = along_places SecondaryEnters SecondaryLeaves begins calls IsSoFar
+  pub all_told : (end : SecondaryWork S) → Chain (SecondaryEnters kernel) SecondaryLeaves calls start end → IsSoFar calls end
+  all_told end chain = along_places (SecondaryEnters kernel) SecondaryLeaves begins calls IsSoFar
       (λ so_far call after a b place holds fitting stands. step_at so_far call after a b call.visit refl place holds fitting stands)
       [] calls start end refl fit chain
-      (record { same = (refl, refl, size); known = λ call among. absurd (no_call call among); did = λ call among. absurd (no_call call among); memory = λ l m e owns. absurd (none_some m e); splits = none_counted (λ c. Owns k t c × Splits w.old w.mark c) start.splits no_splits; merges = none_counted (λ c. Owns k t c × Merges w.old w.mark c) start.merges no_merges })
+      (record { same = (refl, refl, size, refl); known = λ call among. absurd (no_call call among); did = λ call among. absurd (no_call call among); told = λ call among. absurd (no_call call among); memory = λ l m e owns. absurd (none_some m e); splits = none_counted (λ c. Owns k t c × Splits w.old w.mark c) start.splits no_splits; merges = none_counted (λ c. Owns k t c × Merges w.old w.mark c) start.merges no_merges; failing = subst (λ o. FailsAmong (Among [] (IsEnclave k w.old t)) w.next o) (sym none_found) (none_fails w.next (Among [] (IsEnclave k w.old t)) (λ c h. h.0)); gathered = none_gathered (IsEnclave k w.old t) start.tasks })
     where
       none_some : (m : CellKey) → ◌≡◌ {A = Option CellKey} None (Some m) → ⊥
       none_some m e = cc

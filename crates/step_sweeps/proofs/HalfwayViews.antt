@@ -43,9 +43,9 @@ pub plain_is_plan : (k : Cuts) (t : ℕ) (dir : Direction) (g : Spacetree) → I
 plain_is_plan k t dir g fits = record { depth = fits.deepest; old = (fits.grid, refl); new = fits.grid }
 
 -- a record of a vertex that the grid stores, at a moment of a secondary sweep
-pub record IsKnown (w : Change) (s : Stored) : Type 0 where
+pub record IsKnown (k : Cuts) (w : Change) (s : Stored) : Type 0 where
   pub stored : IsStored w.old s.key
-  pub says : SaysOfCells w.old.dim s (Halfway w)
+  pub says : SaysOfCells w.old.dim s (Halfway k w)
 
 -- such a sweep makes no vertex
 not_made : (b : Bool) → (b || b) ≡ true → b ≡ false → ⊥
@@ -56,7 +56,7 @@ module _ (k : Cuts) (w : Change) (t : ℕ) (dir : Direction) (f : States) (numbe
   abbrev p : TreeSweep
   p = plain_sweep k t dir w.old f number task
 
-  pub none_new : (v : VertexKey) → is_kept p.plan v ≡ true → is_stored_in p.plan.old v ≡ false → IsKnown w (fresh w.old.dim v)
+  pub none_new : (v : VertexKey) → is_kept p.plan v ≡ true → is_stored_in p.plan.old v ≡ false → IsKnown k w (fresh w.old.dim v)
   none_new v kept none = absurd (not_made (is_stored_in p.plan.old v) kept none)
 
   module _ (c : CellKey) (v u : CellView) (fits : ViewFits p c v) (keeps : Keeps v u) (cell : IsCell w.old.dim c) where
@@ -65,7 +65,7 @@ module _ (k : Cuts) (w : Change) (t : ℕ) (dir : Direction) (f : States) (numbe
     same_beyond (Hanging q) h = absurd h
     same_beyond Beyond h = refl
 
-    corner_says : (n : ℕ) → n < corners w.old.dim → EachVertex p (IsKnown w) u → (x y : Corner) → corner_at u n ≡ y → SameCorner x y → CornerFits p (corner_of c n) x → CornerSays w.old (InSecondary w) (corner_of c n) y
+    corner_says : (n : ℕ) → n < corners w.old.dim → EachVertex p (IsKnown k w) u → (x y : Corner) → corner_at u n ≡ y → SameCorner x y → CornerFits p (corner_of c n) x → CornerSays w.old (InSecondary w) (corner_of c n) y
     corner_says n below each (Vertex s) (Vertex r) e same h = let known = each n r below e in (same.0 ∙ h.0, subst (IsStored w.old) (same.0 ∙ h.0) known.stored, λ j q inside at. (known.says j q inside at).shows)
     corner_says n below each (Vertex s) (Hanging b) e same h = absurd same
     corner_says n below each (Vertex s) Beyond e same h = absurd same
@@ -75,7 +75,7 @@ module _ (k : Cuts) (w : Change) (t : ℕ) (dir : Direction) (f : States) (numbe
     corner_says n below each Beyond y e same h = absurd h
 
     -- a view whose records are known shows the grid and the marks
-    pub shows_marks : EachVertex p (IsKnown w) u → ShowsMarks w.old w.mark u
+    pub shows_marks : EachVertex p (IsKnown k w) u → ShowsMarks w.old w.mark u
     shows_marks each = secondary_views_show w u (record {
       cell = subst (IsCell w.old.dim) (sym key) cell;
       corner = λ n below. subst (λ q. CornerSays w.old (InSecondary w) (corner_of q n) (corner_at u n)) (sym key) (corner_says n below each (corner_at v n) (corner_at u n) refl (keeps.corners_stay n) (fits.each n below));
@@ -86,15 +86,15 @@ module _ (k : Cuts) (w : Change) (t : ℕ) (dir : Direction) (f : States) (numbe
         key = keeps.key ∙ fits.view.key
 
     -- a call that works in the slots of its cell leaves known records
-    pub works_leave : (leaving : Bool) → EachVertex p (IsKnown w) v → ((n : ℕ) (s r : Stored) → n < corners w.old.dim → corner_at v n ≡ Vertex s → corner_at u n ≡ Vertex r → ChangesOneCell w.old.dim c (Works k w t leaving c) s r) → EachVertex p (IsKnown w) u
+    pub works_leave : (leaving : Bool) → EachVertex p (IsKnown k w) v → ((n : ℕ) (s r : Stored) → n < corners w.old.dim → corner_at v n ≡ Vertex s → corner_at u n ≡ Vertex r → ChangesOneCell w.old.dim c (Works k w t leaving c) s r) → EachVertex p (IsKnown k w) u
     works_leave leaving each works n r below to = by (corner_at v n) refl (subst (SameCorner (corner_at v n)) to (keeps.corners_stay n))
       where
-        by : (x : Corner) → corner_at v n ≡ x → SameCorner x (Vertex r) → IsKnown w r
+        by : (x : Corner) → corner_at v n ≡ x → SameCorner x (Vertex r) → IsKnown k w r
         by (Vertex s) at same =
             let known = each n s below at in
             record {
               stored = subst (IsStored w.old) (sym same.0) known.stored;
-              says = changed_says w.old.dim c (Halfway w) (Works k w t leaving c) s r (works n s r below at to) same.0 known.says (λ x y half work. (work half).0);
+              says = changed_says w.old.dim c (Halfway k w) (Works k w t leaving c) s r (works n s r below at to) same.0 known.says (λ x y half work. (work half).0);
             }
         by (Hanging q) at same = absurd same
         by Beyond at same = absurd same

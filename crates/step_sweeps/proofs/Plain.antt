@@ -1,6 +1,6 @@
 -- What the views of a sweep that changes no grid show of its grid and its field.
-use Rattle.std.proofs.Common.{◌≡◌, ◌&&◌, ◌||◌, Bool, true, false, Option, Some, None, if◌then◌else◌, refl, ap, sym, ◌∙◌, subst, ⊎_elim}
-use Rattle.std.specs.Prelude.{not}
+use Rattle.std.proofs.Common.{◌≡◌, ℕ, ◌↔◌, ◌&&◌, ◌||◌, Bool, true, false, Option, Some, None, if◌then◌else◌, refl, ap, sym, ◌∙◌, subst, ⊎_elim}
+use Rattle.std.specs.Prelude.{not, IsTrue, IsFalse}
 use Rattle.std.proofs.lemmas.Bool.{false≢true}
 use Rattle.peano_keys.specs.declared.cell.CellKey.{CellKey}
 use Rattle.peano_keys.specs.declared.vertex.VertexKey.{VertexKey}
@@ -13,12 +13,16 @@ use Rattle.peano_records.specs.declared.view.Corner.{Corner}
 use Rattle.peano_records.specs.declared.view.Corner.TheVariants.{Vertex, Hanging, Beyond}
 use Rattle.peano_records.specs.declared.view.CellView.{CellView}
 use Rattle.peano_records.specs.Tells.{corner_at}
-use Rattle.hanging_nodes.specs.Views.{IsStoredBefore}
+use Rattle.hanging_nodes.specs.Views.{IsStoredBefore, Shows}
+use Rattle.curve_cuts.specs.Cuts.{Cuts}
+use Rattle.curve_cuts.specs.Enclave.{OwnsLeaf, IsEnclave, IsSkeleton}
 use Rattle.sweep_visits.specs.Plan.{is_cell_in}
 use Rattle.tree_automaton.specs.declared.kinds.Serves.TheVariants.{Plain}
-use Rattle.tree_automaton.specs.Sweep.{TreeSweep, flag_in}
+use Rattle.tree_automaton.specs.Sweep.{TreeSweep, flag_in, tells_new}
 use Rattle.tree_automaton.specs.Views.{CornerFits, CornerGiven, HasValues, ViewFits, ViewGiven, value_in, value_at_home}
+use Rattle.tree_automaton.proofs.Decided.{shows}
 use Rattle.step_phases.proofs.Homes.{home_below, home_stands, slot_below}
+use Rattle.step_sweeps.specs.Enclaves.{DecidesEnclave}
 
 both_true : (a b : Bool) → (a && b) ≡ true → (a ≡ true) × (b ≡ true)
 both_true true b e = (refl, e)
@@ -89,3 +93,21 @@ module _ (p : TreeSweep) (serves : p.serves ≡ Plain) (one : p.plan.old ≡ Som
             (values (slot_from g.dim (home_of g.dim c)) c (slot_below g.dim (home_of g.dim c)) (subst (λ w. adjacent_of g.dim w (slot_from g.dim (home_of g.dim c)) ≡ Some c) (sym h.0) (home_stands g.dim c cell))).value
         by (Hanging k) h = absurd (h.1 (subst (λ o. IsStoredBefore o (corner_of c (home_of g.dim c))) (sym one) (home_is_stored g c cell there)))
         by Beyond h = absurd h
+
+    -- it shows the grid
+    pub shows_grid : Shows g.dim (Some g) g false v
+    shows_grid = subst (λ s. Shows g.dim (Some g) g (tells_new s) v) serves (subst (λ o. Shows g.dim o g (tells_new p.serves) v) one (shows p c v fits))
+
+    -- so that of a leaf of a tree decides whether the leaf is an enclave
+    module _ (k : Cuts) (t : ℕ) (dim : g.dim ≡ k.dim) (owns : OwnsLeaf k g t c) (b : Bool) (decides : DecidesEnclave k t v b) where
+      told : Shows k.dim (Some g) g false v
+      told = subst (λ d. Shows d (Some g) g false v) dim shows_grid
+
+      by_key : OwnsLeaf k g t v.key
+      by_key = subst (OwnsLeaf k g t) (sym fits.view.key) owns
+
+      pub decides_enclave : IsTrue b ↔ IsEnclave k g t c
+      decides_enclave = subst (λ q. IsTrue b ↔ IsEnclave k g t q) fits.view.key (decides.enclave g dim told by_key)
+
+      pub decides_skeleton : IsFalse b ↔ IsSkeleton k g t c
+      decides_skeleton = subst (λ q. IsFalse b ↔ IsSkeleton k g t q) fits.view.key (decides.skeleton g dim told by_key)

@@ -1,6 +1,9 @@
 -- What a primary sweep makes of the slots of cells.
-use Rattle.std.proofs.Common.{◌≡◌, true, false, List, [], Some, map, refl, ap, sym, ◌∙◌, subst, ⊎_elim}
+use Rattle.std.proofs.Common.{◌≡◌, ◌↔◌, ℕ, ◌<◌, Bool, true, false, List, [], Some, map, refl, ap, sym, ◌∙◌, subst, ⊎_elim}
 use Rattle.peano_keys.specs.declared.cell.CellKey.{CellKey}
+use Rattle.std.specs.Prelude.{IsFalse}
+use Rattle.std.proofs.lemmas.Bool.{false≢true}
+use Rattle.peano_keys.specs.Dim.{corners}
 use Rattle.peano_keys.specs.Cell.{IsCell}
 use Rattle.peano_keys.specs.Vertex.{corner_of}
 use Rattle.peano_keys.specs.Grid.{Spacetree, has_cell, is_leaf}
@@ -11,6 +14,7 @@ use Rattle.peano_records.specs.declared.view.CellView.{CellView}
 use Rattle.peano_records.specs.declared.view.Corner.TheVariants.{Vertex}
 use Rattle.peano_records.specs.Tells.{corner_at}
 use Rattle.curve_cuts.specs.Cuts.{Cuts, IsCutGrid, Owns}
+use Rattle.curve_cuts.specs.Enclave.{OwnsLeaf, IsSkeleton}
 use Rattle.curve_cuts.specs.Keys.{cuts_of}
 use Rattle.solver_api.specs.Step.{new_state}
 use Rattle.spacetree.specs.Fields.{IsFieldOn}
@@ -29,12 +33,14 @@ use Rattle.step_phases.specs.Sweeps.{PrimaryChanges}
 use Rattle.swept_slots.specs.Changes.{ChangesOneCell, EachVisitChanges}
 use Rattle.swept_slots.proofs.Views.{one_record}
 use Rattle.swept_slots.proofs.Visited.{cell_held, told as story}
+use Rattle.step_sweeps.specs.declared.told.Told.{Told}
 use Rattle.step_sweeps.specs.Told.{told_slot, told_record, IsTold}
+use Rattle.step_sweeps.specs.Enclaves.{DecidesEnclave}
 use Rattle.step_sweeps.specs.Kernels.{Kernel, IsChangeBy, new_in}
-use Rattle.step_sweeps.specs.Primaries.{PrimaryWork, Computes, PrimaryEnters, PrimaryLeaves, leaf_told, every_leaf}
+use Rattle.step_sweeps.specs.Primaries.{PrimaryWork, Computes, PrimaryEnters, PrimaryLeaves, leaf_told, mark_told}
 use Rattle.step_sweeps.proofs.OwnSlots.{record_told, told_changes, changes_less, changes_none}
-use Rattle.step_sweeps.proofs.Plain.{view_fits, leaf_shown, leaf_seen, home_shows, there_in}
-use Rattle.step_sweeps.proofs.Primaries.{Did, Same, did, computes, is_new, told_change, passed_change}
+use Rattle.step_sweeps.proofs.Plain.{view_fits, leaf_shown, leaf_seen, home_shows, there_in, decides_skeleton}
+use Rattle.step_sweeps.proofs.Primaries.{Did, Same, did, computes, is_new, told_change, marked_change, passed_change}
 
 -- a sweep of the primary visitor over a grid and a field
 module _ {S : Type 0} (kernel : S → Kernel) (start end : PrimaryWork S) (p : TreeSweep) (serves : p.serves ≡ Plain) (one : p.plan.old ≡ Some p.plan.new) (is_plan : IsSweepPlan p.plan)
@@ -81,7 +87,22 @@ module _ {S : Type 0} (kernel : S → Kernel) (start end : PrimaryWork S) (p : T
     field_old = subst (λ g. IsFieldOn made_with.parts g p.field) (sym change.old) field
 
     abbrev Changed : CellKey → Slot → Slot → Type 0
-    Changed c x y = PrimaryChanges cuts w every_leaf start.tree c x y
+    Changed c x y = PrimaryChanges cuts w start.tree c x y
+
+    -- a view that decides for an enclave is of no skeleton leaf
+    enclave_apart : (c : CellKey) (v : CellView) → ViewFits p c v → DecidesEnclave cuts start.tree v true → IsSkeleton cuts w.old start.tree c → ⊥
+    enclave_apart c v view decides skeleton =
+        let here : IsSkeleton cuts p.plan.new start.tree c = subst (λ g. IsSkeleton cuts g start.tree c) change.old skeleton in
+        false≢true (sym ((decides_skeleton p serves one c v view cuts start.tree fits.dim here.0 true decides).1 here))
+
+    -- what is told of a cell at a corner
+    told_in : (c : CellKey) (n : ℕ) (s u : Stored) (v m : CellView) (what : Told) → n < corners (dim_of p.plan) → IsCell (dim_of p.plan) c → CornerFits p (corner_of c n) (Vertex s) → corner_at v n ≡ Vertex s → corner_at m n ≡ Vertex u → IsTold cuts.dim what v m →
+        ((x y : Slot) → y ≡ told_slot what x → Changed c x y) → ChangesOneCell (dim_of p.plan) c (Changed c) s u
+    told_in c n s u v m what low cell corner at to told changes =
+        let told_here : IsTold (dim_of p.plan) what v m = subst (λ d. IsTold d what v m) (sym dim) told in
+        let is : u ≡ told_record (dim_of p.plan) what n s = record_told (dim_of p.plan) what v m told_here n s u low at to in
+        subst (ChangesOneCell (dim_of p.plan) c (Changed c) s) (sym is) (changes_less (dim_of p.plan) c (λ x y. y ≡ told_slot what x) (Changed c) s (told_record (dim_of p.plan) what n s) changes
+        (told_changes (dim_of p.plan) what c n s cell low corner.0 corner.1.eight))
 
     -- the two calls at a cell
     pub each_visit : EachVisitChanges told Changed
@@ -96,14 +117,15 @@ module _ {S : Type 0} (kernel : S → Kernel) (start end : PrimaryWork S) (p : T
         let shown = known_old c e.given view cell here in
         let kept : u ≡ changed.between = one_record (corner_at changed.leaving.made n) changed.between u (ap (λ (v : CellView). corner_at v n) (subst (λ v. Did made_with cuts start.tree v changed.leaving.given changed.leaving.made) changed.leaves (each_did changed.leaving changed.leaving_among) ∙ changed.same) ∙ changed.kept) changed.made in
         subst (ChangesOneCell (dim_of p.plan) c (Changed c) s) (sym kept) (⊎_elim
-        (λ h.
-        let told_here : IsTold (dim_of p.plan) (leaf_told made_with cuts.dim e.given) e.given e.made = subst (λ d. IsTold d (leaf_told made_with cuts.dim e.given) e.given e.made) (sym dim) h.1 in
-        let is : changed.between ≡ told_record (dim_of p.plan) (leaf_told made_with cuts.dim e.given) n s = record_told (dim_of p.plan) (leaf_told made_with cuts.dim e.given) e.given e.made told_here n s changed.between low changed.given changed.kept in
-        subst (ChangesOneCell (dim_of p.plan) c (Changed c) s) (sym is) (changes_less (dim_of p.plan) c (λ x y. y ≡ told_slot (leaf_told made_with cuts.dim e.given) x) (Changed c) s (told_record (dim_of p.plan) (leaf_told made_with cuts.dim e.given) n s)
-        (told_change made_with cuts start.tree w p.field change_old fits_old field_old c e.given view.view.key shown.1 (λ _. shown.0) shown.2 shown.3 cell h.0)
-        (told_changes (dim_of p.plan) (leaf_told made_with cuts.dim e.given) c n s held.cell low corner.0 corner.1.eight)))
+        (λ h. told_in c n s changed.between e.given (record e.made { task = e.given.task }) (mark_told made_with cuts.dim e.given) low held.cell corner changed.given changed.kept h.2
+        (marked_change made_with cuts start.tree w p.field change_old fits_old field_old c e.given view.view.key shown.1 (λ _. shown.0) shown.2 shown.3 cell
+        (λ skeleton. enclave_apart c e.given view h.1 skeleton)))
+        (λ other. ⊎_elim
+        (λ h. told_in c n s changed.between e.given e.made (leaf_told made_with cuts.dim e.given) low held.cell corner changed.given changed.kept h.2
+        (told_change made_with cuts start.tree w p.field change_old fits_old field_old c e.given view.view.key shown.1 (λ _. shown.0) shown.2 shown.3 cell h.0))
         (λ h. changes_none (dim_of p.plan) c (Changed c) s changed.between (one_record (corner_at e.made n) s changed.between (ap (λ (v : CellView). corner_at v n) h.1 ∙ changed.given) changed.kept)
         (passed_change made_with cuts start.tree w p.field change_old fits_old field_old c e.given view.view.key shown.1 (λ _. shown.0) shown.2 shown.3 cell h.0 here))
+        other)
         (subst (λ v. Did made_with cuts start.tree v e.given e.made) changed.enters (each_did e changed.entering_among)))
 
     -- what is known of a leaf as it is entered
@@ -111,6 +133,7 @@ module _ {S : Type 0} (kernel : S → Kernel) (start end : PrimaryWork S) (p : T
       pub leaf : v.was ≡ Some false → is_leaf w.old c ≡ true
       pub new : is_leaf w.old c ≡ true → new_in made_with cuts.dim v ≡ new_state made_with.updated w.old p.field c
       pub computed : Owns cuts start.tree c → is_leaf w.old c ≡ true → Computes made_with cuts start.tree v
+      pub kind : (b : Bool) → DecidesEnclave cuts start.tree v b → OwnsLeaf cuts p.plan.new start.tree c → IsFalse b ↔ IsSkeleton cuts p.plan.new start.tree c
 
     pub known_leaf : (c : CellKey) (v : CellView) → IsHeldCell p.plan (in_grids p.plan) c → ViewFits p c v → IsKnownLeaf c v
     unfolding as_old
@@ -122,4 +145,5 @@ module _ {S : Type 0} (kernel : S → Kernel) (start end : PrimaryWork S) (p : T
           leaf = shown.2;
           new = is_new made_with cuts start.tree w p.field change_old fits_old field_old c v view.view.key shown.1 (λ _. shown.0) shown.2 shown.3 cell;
           computed = λ owns leaf. computes made_with cuts start.tree w p.field change_old fits_old field_old c v view.view.key shown.1 (λ _. shown.0) shown.2 shown.3 cell owns leaf here;
+          kind = λ b decides owns. decides_skeleton p serves one c v view cuts start.tree fits.dim owns b decides;
         }

@@ -1,124 +1,78 @@
--- The least leaf of a tree's own that has no new state, call by call.
-use Rattle.std.proofs.Common.{◌≡◌, ℕ, Bool, true, false, List, [], ◌∷◌, ◌++◌, Option, Some, None, if◌then◌else◌, refl, ap, sym, ◌∙◌, subst, inl, inr, ⊎_elim, append-nil}
-use Rattle.std.specs.declared.cmp.Ordering.{Ordering}
-use Rattle.std.specs.declared.cmp.Ordering.TheVariants.{Less, Equal, Greater}
-use Rattle.std.specs.Ordering.{is_lt}
-use Rattle.stack_law.specs.Once.{IsIn}
-use Rattle.stack_law.proofs.Distinct.{in_either}
-use Rattle.stack_law.proofs.Chains.{in_left, in_right}
-use Rattle.std.proofs.lemmas.Cmp.{tied_itself}
-use Rattle.std.proofs.lemmas.Bool.{false≢true}
+-- The least skeleton leaf of a tree that has no new state, call by call.
+use Rattle.std.proofs.Common.{◌≡◌, ℕ, true, false, List, [], ◌∷◌, ◌++◌, Option, None, map, refl, ap, sym, ◌∙◌, subst, inl, inr, append-nil}
+use Rattle.std.specs.Prelude.{flat_map}
 use Rattle.peano_keys.specs.declared.cell.CellKey.{CellKey}
 use Rattle.peano_keys.specs.declared.state.State.{State}
-use Rattle.peano_keys.specs.Cell.{key_cmp}
+use Rattle.peano_records.specs.declared.stored.Stored.{Stored}
+use Rattle.peano_records.specs.declared.view.CellView.{CellView}
 use Rattle.curve_cuts.specs.Cuts.{Cuts}
 use Rattle.curve_cuts.specs.Keys.{cuts_of}
-use Rattle.spacetree.proofs.CellMaps.{cells_total}
 use Rattle.sweep_visits.specs.Visits.{Visit, enter, leave}
-use Rattle.tree_automaton.specs.Story.{Call, Story}
-use Rattle.tree_automaton.specs.Sweeps.{AllCallsFit, Chain, Stands}
-use Rattle.tree_automaton.proofs.Collects.{along_calls}
-use Rattle.step_sweeps.specs.Kernels.{Kernel, new_in, failing_with, least_of}
+use Rattle.sweep_streams.specs.Records.{entered_at}
+use Rattle.tree_automaton.specs.Story.{Call, IsAmong}
+use Rattle.tree_automaton.specs.Sweep.{TreeSweep}
+use Rattle.tree_automaton.specs.Sweeps.{AllCallsFit, Chain, Stands, begun, visit_of}
+use Rattle.vertex_stacks.specs.declared.tale.Tale.{Tale}
+use Rattle.swept_slots.proofs.Given.{along_places}
+use Rattle.step_world.specs.Failing.{FailsAmong}
+use Rattle.step_sweeps.specs.Enclaves.{DecidesEnclave}
+use Rattle.step_sweeps.specs.Kernels.{Kernel, new_in, failing_with}
 use Rattle.step_sweeps.specs.Primaries.{PrimaryWork, Computes, PrimaryEnters, PrimaryLeaves}
+use Rattle.step_sweeps.proofs.LeastFailing.{Among, none_fails, other_more, leaf_more}
+use Rattle.step_sweeps.proofs.OwnCounts.{flat_at}
 use Rattle.step_sweeps.proofs.Primaries.{Same, did}
 
--- a call computed a leaf that has no new state
-pub record Failed (k : Kernel) (cuts : Cuts) (t : ℕ) (call : Call) : Type 0 where
-  pub cell : CellKey
-  pub visit : call.visit ≡ enter cell
-  pub computed : Computes k cuts t call.given
-  pub none : new_in k cuts.dim call.given ≡ None
+-- the view of a cell as it is entered tells whether the cell is of a kind, and then its new value
+pub record IsJudged (k : Kernel) (cuts : Cuts) (t : ℕ) (P : CellKey → Type 0) (next : CellKey → Option State) (c : CellKey) (v : CellView) : Type 0 where
+  pub key : v.key ≡ c
+  pub enclave : Computes k cuts t v → DecidesEnclave cuts t v true → P c → ⊥
+  pub skeleton : Computes k cuts t v → DecidesEnclave cuts t v false → P c
+  pub computed : P c → Computes k cuts t v
+  pub new : P c → new_in k cuts.dim v ≡ next c
 
-module _ (k : Kernel) (cuts : Cuts) (t : ℕ) where
-  -- some call of a list failed at a cell
-  pub record FailedAt (calls : List Call) (c : CellKey) : Type 0 where
-    pub call : Call
-    pub among : IsIn call calls
-    pub failed : Failed k cuts t call
-    pub key : call.given.key ≡ c
+-- the cells that calls entered
+abbrev pub seen : List Call → List CellKey
+seen so_far = flat_map entered_at (map visit_of so_far)
 
-  -- what was found is the least
-  abbrev pub IsLeast : List Call → Option CellKey → Type 0
-  IsLeast calls None = (call : Call) → IsIn call calls → Failed k cuts t call → ⊥
-  IsLeast calls (Some c) = FailedAt calls c × ((call : Call) → IsIn call calls → Failed k cuts t call → ¬ (key_cmp call.given.key c ≡ Less))
+module _ {S : Type 0} (kernel : S → Kernel) (start : PrimaryWork S) (calls : List Call) (P : CellKey → Type 0) (next : CellKey → Option State)
+    (judged : (call : Call) → IsAmong call calls → (c : CellKey) → call.visit ≡ enter c → IsJudged (kernel start.solver) (cuts_of start.keys) start.tree P next c call.given) where
+  Holds : List Call → PrimaryWork S → Type 0
+  Holds so_far a = Same kernel start a × FailsAmong (Among (seen so_far) P) next a.failing
 
-  none_more : (calls : List Call) (call : Call) (o : Option CellKey) → (Failed k cuts t call → ⊥) → IsLeast calls o → IsLeast (calls ++ call ∷ []) o
-  none_more calls call None fine least = λ one at failed. ⊎_elim (λ h. least one h failed) (λ h. ⊎_elim (λ e. fine (subst (Failed k cuts t) e failed)) (λ n. absurd n) h) (in_either one calls (call ∷ []) at)
-  none_more calls call (Some c) fine least = (
-    record { call = least.0.call; among = in_left (λ z. 0) least.0.call calls (call ∷ []) least.0.among; failed = least.0.failed; key = least.0.key },
-    λ one at failed. ⊎_elim (λ h. least.1 one h failed) (λ h. ⊎_elim (λ e. absurd (fine (subst (Failed k cuts t) e failed))) (λ n. absurd n) h) (in_either one calls (call ∷ []) at),
-  )
+  entered_more : (so_far : List Call) (call : Call) (c : CellKey) (o : Option CellKey) → call.visit ≡ enter c → FailsAmong (Among (seen so_far ++ c ∷ []) P) next o → FailsAmong (Among (seen (so_far ++ call ∷ [])) P) next o
+  entered_more so_far call c o is h = subst (λ l. FailsAmong (Among l P) next o) (sym (flat_at entered_at so_far call (enter c) [] is)) h
 
-  never_less : (c : CellKey) → ¬ (key_cmp c c ≡ Less)
-  never_less c e = let same = tied_itself cells_total c in cc
-
-  is_last : (calls : List Call) (call : Call) → IsIn call (calls ++ call ∷ [])
-  is_last calls call = in_right (λ z. 0) call calls (call ∷ []) (inl refl)
-
-  one_more : (calls : List Call) (call : Call) (o : Option CellKey) → Failed k cuts t call → IsLeast calls o → IsLeast (calls ++ call ∷ []) (Some (least_of o call.given.key))
-  one_more calls call None failed least = (
-    record { call = call; among = is_last calls call; failed = failed; key = refl },
-    λ one at other. ⊎_elim (λ h. absurd (least one h other)) (λ h. ⊎_elim (λ e. subst (λ (x : Call). ¬ (key_cmp x.given.key call.given.key ≡ Less)) (sym e) (never_less call.given.key)) (λ n. absurd n) h) (in_either one calls (call ∷ []) at),
-  )
-  one_more calls call (Some d) failed least = by (is_lt (key_cmp call.given.key d)) refl
-    where
-      less_is : (r : Ordering) → is_lt r ≡ true → r ≡ Less
-      less_is Less e = refl
-      less_is Equal e = absurd (false≢true e)
-      less_is Greater e = absurd (false≢true e)
-
-      by : (b : Bool) → is_lt (key_cmp call.given.key d) ≡ b → IsLeast (calls ++ call ∷ []) (Some (if b then call.given.key else d))
-      by true e = (
-        record { call = call; among = is_last calls call; failed = failed; key = refl },
-        λ one at other. ⊎_elim
-            (λ h less. least.1 one h other (cells_total.trans one.given.key call.given.key d less (less_is (key_cmp call.given.key d) e)))
-            (λ h. ⊎_elim (λ same. subst (λ (x : Call). ¬ (key_cmp x.given.key call.given.key ≡ Less)) (sym same) (never_less call.given.key)) (λ n. absurd n) h)
-            (in_either one calls (call ∷ []) at),
-      )
-      by false e = (
-        record { call = least.0.call; among = in_left (λ z. 0) least.0.call calls (call ∷ []) least.0.among; failed = least.0.failed; key = least.0.key },
-        λ one at other. ⊎_elim
-            (λ h. least.1 one h other)
-            (λ h. ⊎_elim (λ same less. false≢true (sym e ∙ ap is_lt (subst (λ (x : Call). key_cmp x.given.key d ≡ Less) same less))) (λ n. absurd n) h)
-            (in_either one calls (call ∷ []) at),
-      )
-
-  -- with a leaf that was computed
-  leaf_more : (calls : List Call) (call : Call) (o : Option CellKey) (new : Option State) → new_in k cuts.dim call.given ≡ new → ((new_in k cuts.dim call.given ≡ None) → Failed k cuts t call) → IsLeast calls o → IsLeast (calls ++ call ∷ []) (failing_with o call.given.key new)
-  leaf_more calls call o (Some s) e failed least = none_more calls call o (λ bad. no_both (sym bad.none ∙ e)) least
-    where
-      no_both : ◌≡◌ {A = Option State} None (Some s) → ⊥
-      no_both e = cc
-  leaf_more calls call o None e failed least = one_more calls call o (failed e) least
-
-module _ {S : Type 0} (kernel : S → Kernel) (start : PrimaryWork S) where
-  abbrev Holds : List Call → PrimaryWork S → Type 0
-  Holds calls a = Same kernel start a × IsLeast (kernel start.solver) (cuts_of start.keys) start.tree calls a.failing
-
-  step : (calls : List Call) (call : Call) (a b : PrimaryWork S) (visit : Visit) → call.visit ≡ visit → Holds calls a → Stands (PrimaryEnters kernel) (PrimaryLeaves kernel) visit call.given call.made a b → Holds (calls ++ call ∷ []) b
-  step calls call a b (enter c) is holds (inl h) =
-      let k = kernel start.solver in
-      let cuts = cuts_of start.keys in
-      let computed : Computes k cuts start.tree call.given = subst (λ (x : PrimaryWork S). Computes (kernel x.solver) (cuts_of x.keys) x.tree call.given) holds.0 h.computed in
-      let found : b.failing ≡ failing_with a.failing call.given.key (new_in k cuts.dim call.given) = ap (λ (x : PrimaryWork S). x.failing) h.found ∙ ap (λ (x : PrimaryWork S). failing_with a.failing call.given.key (new_in (kernel x.solver) x.keys.dim call.given)) holds.0 in
-      ((did kernel start a b (enter c) call.given call.made holds.0 (inl h)).0, subst (IsLeast k cuts start.tree (calls ++ call ∷ [])) (sym found) (leaf_more k cuts start.tree calls call a.failing (new_in k cuts.dim call.given) refl (λ none. record { cell = c; visit = is; computed = computed; none = none }) holds.1))
-  step calls call a b (enter c) is holds (inr h) = (
-    (did kernel start a b (enter c) call.given call.made holds.0 (inr h)).0,
-    subst (IsLeast (kernel start.solver) (cuts_of start.keys) start.tree (calls ++ call ∷ [])) (sym (ap (λ (x : PrimaryWork S). x.failing) h.same))
-        (none_more (kernel start.solver) (cuts_of start.keys) start.tree calls call a.failing (λ failed. h.other (subst (λ (x : PrimaryWork S). Computes (kernel x.solver) (cuts_of x.keys) x.tree call.given) (sym holds.0) failed.computed)) holds.1),
-  )
-  step calls call a b (leave c) is holds h = (
+  step : (so_far : List Call) (call : Call) (after : List Call) (a b : PrimaryWork S) (visit : Visit) → call.visit ≡ visit → calls ≡ so_far ++ call ∷ after → Holds so_far a → Stands (PrimaryEnters kernel) (PrimaryLeaves kernel) visit call.given call.made a b → Holds (so_far ++ call ∷ []) b
+  unfolding Holds
+  step so_far call after a b (enter c) is place holds (inl h) =
+      let judge = judged call (record { before = so_far; after = after; place = place }) c is in
+      let made = did kernel start a b (enter c) call.given call.made holds.0 (inl h) in
+      let computed : Computes (kernel start.solver) (cuts_of start.keys) start.tree call.given = subst (λ (x : PrimaryWork S). Computes (kernel x.solver) (cuts_of x.keys) x.tree call.given) holds.0 h.computed in
+      let decides : DecidesEnclave (cuts_of start.keys) start.tree call.given true = subst (λ (x : PrimaryWork S). DecidesEnclave (cuts_of x.keys) x.tree call.given true) holds.0 h.enclave in
+      (made.0, entered_more so_far call c b.failing is (subst (λ o. FailsAmong (Among (seen so_far ++ c ∷ []) P) next o) (sym (ap (λ (x : PrimaryWork S). x.failing) h.same)) (other_more next (seen so_far) P c a.failing (judge.enclave computed decides) holds.1)))
+  step so_far call after a b (enter c) is place holds (inr (inl h)) =
+      let judge = judged call (record { before = so_far; after = after; place = place }) c is in
+      let made = did kernel start a b (enter c) call.given call.made holds.0 (inr (inl h)) in
+      let computed : Computes (kernel start.solver) (cuts_of start.keys) start.tree call.given = subst (λ (x : PrimaryWork S). Computes (kernel x.solver) (cuts_of x.keys) x.tree call.given) holds.0 h.computed in
+      let decides : DecidesEnclave (cuts_of start.keys) start.tree call.given false = subst (λ (x : PrimaryWork S). DecidesEnclave (cuts_of x.keys) x.tree call.given false) holds.0 h.skeleton in
+      let kind = judge.skeleton computed decides in
+      let new : new_in (kernel a.solver) a.keys.dim call.given ≡ next c = ap (λ (x : PrimaryWork S). new_in (kernel x.solver) x.keys.dim call.given) holds.0 ∙ judge.new kind in
+      let found : b.failing ≡ failing_with a.failing c (next c) = ap (λ (x : PrimaryWork S). x.failing) h.found ∙ (ap (λ q. failing_with a.failing q (new_in (kernel a.solver) a.keys.dim call.given)) judge.key ∙ ap (failing_with a.failing c) new) in
+      (made.0, entered_more so_far call c b.failing is (subst (λ o. FailsAmong (Among (seen so_far ++ c ∷ []) P) next o) (sym found) (leaf_more next (seen so_far) P c a.failing kind holds.1)))
+  step so_far call after a b (enter c) is place holds (inr (inr h)) =
+      let judge = judged call (record { before = so_far; after = after; place = place }) c is in
+      let made = did kernel start a b (enter c) call.given call.made holds.0 (inr (inr h)) in
+      let other : P c → ⊥ = λ kind. h.other (subst (λ (x : PrimaryWork S). Computes (kernel x.solver) (cuts_of x.keys) x.tree call.given) (sym holds.0) (judge.computed kind)) in
+      (made.0, entered_more so_far call c b.failing is (subst (λ o. FailsAmong (Among (seen so_far ++ c ∷ []) P) next o) (sym (ap (λ (x : PrimaryWork S). x.failing) h.same)) (other_more next (seen so_far) P c a.failing other holds.1)))
+  step so_far call after a b (leave c) is place holds h = (
     (did kernel start a b (leave c) call.given call.made holds.0 h).0,
-    subst (IsLeast (kernel start.solver) (cuts_of start.keys) start.tree (calls ++ call ∷ [])) (sym (ap (λ (x : PrimaryWork S). x.failing) h.1))
-        (none_more (kernel start.solver) (cuts_of start.keys) start.tree calls call a.failing (λ failed. not_enter c failed.cell (sym is ∙ failed.visit)) holds.1),
+    subst (λ l. FailsAmong (Among l P) next b.failing) (sym (flat_at entered_at so_far call (leave c) [] is ∙ append-nil (seen so_far)))
+        (subst (λ o. FailsAmong (Among (seen so_far) P) next o) (sym (ap (λ (x : PrimaryWork S). x.failing) h.1)) holds.1),
   )
-    where
-      not_enter : (q r : CellKey) → leave q ≡ enter r → ⊥
-      not_enter q r e = cc
 
-  -- after all calls the visitor has found the least leaf that failed
-  pub least_found : (m : Story) (calls : List Call) (end : PrimaryWork S) → start.failing ≡ None → AllCallsFit m calls → Chain (PrimaryEnters kernel) (PrimaryLeaves kernel) calls start end → IsLeast (kernel start.solver) (cuts_of start.keys) start.tree calls end.failing
-  least_found m calls end none fit chain =
-      (along_calls (PrimaryEnters kernel) (PrimaryLeaves kernel) m Holds (λ so_far call a b holds fits stands. step so_far call a b call.visit refl holds stands) [] calls start end
-      (subst (λ l. AllCallsFit (record m { calls = l }) calls) (sym (append-nil m.calls)) fit) chain
-      (refl, subst (IsLeast (kernel start.solver) (cuts_of start.keys) start.tree []) (sym none) (λ one at failed. at))).1
+  -- after all calls the visitor has found the least that failed
+  pub least_found : (p : TreeSweep) (first : List Stored) (tale : Tale) (end : PrimaryWork S) → start.failing ≡ None → AllCallsFit (begun p first tale) calls → Chain (PrimaryEnters kernel) (PrimaryLeaves kernel) calls start end → FailsAmong (Among (seen calls) P) next end.failing
+  unfolding Holds
+  least_found p first tale end none fit chain =
+      (along_places (PrimaryEnters kernel) (PrimaryLeaves kernel) (begun p first tale) calls Holds (λ so_far call after a b place holds fits stands. step so_far call after a b call.visit refl place holds stands) [] calls start end refl fit chain
+      (refl, subst (λ o. FailsAmong (Among [] P) next o) (sym none) (none_fails next (Among [] P) (λ c h. h.0)))).1

@@ -5,41 +5,55 @@ ghost use Rattle.peano_keys.specs.Cell.{IsCell};
 ghost use Rattle.curve_cuts.specs.Keys.{cuts_of};
 ghost use Rattle.tree_automaton.specs.Promises.{IsViewIn};
 ghost use Rattle.tree_automaton.specs.declared.kinds.Serves.TheVariants.{Plain};
+ghost use Rattle.step_sweeps.specs.Told.{IsTold};
 ghost use Rattle.step_sweeps.specs.Secondaries.{SecondaryEnters, SecondaryLeaves, RefinedLeft, CentreLeft, IsOwnRefined, leaf_intends, refined_intends, nothing_told, one_if};
 
 use crate::centre::{Centre, home_next, is_centre};
-use crate::primary::is_own_leaf;
+use crate::leaf::{have_parts, home_value};
+use crate::primary::{failing, is_own_leaf};
 use crate::tally::Tally;
+use crate::tasks::TreeTasks;
 use crate::told::Told;
 use adapt_marks::{merges, splits};
 use curve_cuts::Keys;
-use peano_keys::State;
+use enclave_marks::is_enclave;
+use peano_keys::{CellKey, State};
 use peano_records::{CellView, Intent};
+use result_table::Updates;
+use solver_api::Solver;
 use std::alloc::AllocError;
 use std::marker::Model;
+use task_pool::Passes;
 use tree_automaton::Visitor;
 
-/// Finishes a step in the cells that a tree owns, once the marks and the new values of all leaves are there: each leaf and
-/// each refined cell takes its intent, and each refined cell the new value of its centre child. Takes no memory.
+/// Finishes a step in the cells that a tree owns, once the marks of all leaves and the new values of skeleton leaves are
+/// there: each leaf and each refined cell takes its intent, each enclave leaf its new value as `next`, and each refined
+/// cell that of its centre child. The new value of an enclave leaf is a helper's, where one published it, and else computed
+/// here. An enclave leaf that has no new value keeps its `next`. Takes no memory.
 #[derive(Drop)]
-pub struct Secondary<'a> {
+pub struct Secondary<'a, S: Updates, G> {
+    solver: &'a S,
     keys: &'a Keys,
     tree: u32,
     centres: [Centre; 13],
     splits: u64,
     merges: u64,
+    failing: Option<CellKey>,
+    tasks: TreeTasks<'a, S>,
+    gate: &'a G,
 }
 
-impl<'a> Model for Secondary<'a> {
+impl<'a, S: Updates, G> Model for Secondary<'a, S, G> {
     ghost use Rattle.std.specs.Prelude.{◌<◌, ◌≡◌, length};
     ghost use Rattle.curve_cuts.specs.Keys.{cuts_of};
+    ghost use Rattle.step_sweeps.specs.Told.{IsTold};
     ghost use Rattle.step_sweeps.specs.Secondaries.{SecondaryWork};
 
-    ghost Value = { SecondaryWork };
+    ghost Value = { SecondaryWork S };
 
-    ghost view = { λ s. record { keys = s.keys.now; tree = s.tree; centres = s.centres; splits = s.splits; merges = s.merges } };
+    ghost view = { λ s. record { solver = s.solver.now; keys = s.keys.now; tree = s.tree; centres = s.centres; splits = s.splits; merges = s.merges; failing = s.failing; tasks = s.tasks } };
 
-    ghost invariant = { λ s. (s.tree < (cuts_of s.keys.now).trees) × (length s.centres ≡ 13) };
+    ghost invariant = { λ s. (s.tree < (cuts_of s.keys.now).trees) × (length s.centres ≡ 13) × (s.tasks.solver ≡ s.solver.now) };
 }
 
 // Whether a tree owns the refined cell of a view.
@@ -55,13 +69,13 @@ fn is_own_refined(keys: &Keys, tree: u32, view: &CellView) -> bool
     }
 }
 
-// What a leaf is told: whether it splits.
-fn leaf_intends(split: bool) -> Told
-    ensures { result ≡ leaf_intends split }
+// What a leaf is told: whether it splits, and its new value where there is one to tell.
+fn leaf_intends(next: Option<State>, split: bool) -> Told
+    ensures { result ≡ leaf_intends next split }
 {
     Told {
         mark: None,
-        next: None,
+        next,
         intent: Some(if split { Intent::Split } else { Intent::Stay }),
     }
 }
@@ -92,38 +106,62 @@ fn counted(passes: bool, count: u64) -> u64
     }
 }
 
-impl<'a> Secondary<'a> {
-    /// A visitor that finishes a step in one of the trees of some keys.
-    pub fn new(keys: &'a Keys, tree: u32) -> Secondary<'a>
-        requires { tree < (cuts_of keys.now).trees }
-        ensures { result ≡ record { keys = keys.now; tree = tree; centres = replicate 13 nothing_told; splits = 0; merges = 0 } }
+impl<'a, S: Updates, G> Secondary<'a, S, G> {
+    /// A visitor that finishes a step in one of the trees of some keys, with the tasks that its primary sweep spawned. The
+    /// gate is passed before each kernel of a task.
+    pub fn new(
+        solver: &'a S,
+        keys: &'a Keys,
+        tree: u32,
+        tasks: TreeTasks<'a, S>,
+        gate: &'a G,
+    ) -> Secondary<'a, S, G>
+        requires tree { tree < (cuts_of keys.now).trees }
+        requires solver { tasks.solver ≡ solver.now }
+        ensures { result ≡ record { solver = solver.now; keys = keys.now; tree = tree; centres = replicate 13 nothing_told; splits = 0; merges = 0; failing = None; tasks = tasks.entry } }
     {
         let nothing = Centre {
             next: State::Single(0),
             merges: false,
         };
         Secondary {
+            solver,
             keys,
             tree,
             centres: [nothing; 13],
             splits: 0,
             merges: 0,
+            failing: None,
+            tasks,
+            gate,
         }
     }
 
-    /// How many leaves of the tree's own split, and how many refined cells merge.
-    pub fn tally(&self) -> Tally
-        ensures { result ≡ record { failing = None; splits = self.now.splits; merges = self.now.merges } }
+    /// The tree's tasks; and the least enclave leaf that has no new value, how many leaves of the tree's own split, and how
+    /// many refined cells merge.
+    pub fn close(self) -> (TreeTasks<'a, S>, Tally)
+        ensures tasks { result.0 ≡ self.entry.tasks }
+        ensures tally { result.1 ≡ record { failing = self.entry.failing; splits = self.entry.splits; merges = self.entry.merges } }
     {
-        Tally {
-            failing: None,
+        let tally = Tally {
+            failing: self.failing,
             splits: self.splits,
             merges: self.merges,
-        }
+        };
+        (self.tasks, tally)
     }
 }
 
-impl<'a> Secondary<'a> {
+impl<'a, S: Updates, G> Secondary<'a, S, G> {
+    // A leaf of the tree takes its intent, and its new value where there is one to tell.
+    fn intend(&mut self, next: Option<State>, split: bool, cell: &mut CellView)
+        ensures told { IsTold self.old.keys.dim (leaf_intends next split) cell.old cell.new }
+        ensures counted { self.new ≡ record self.old { splits = one_if split self.old.splits } }
+    {
+        leaf_intends(next, split).in_view(self.keys.dim(), cell);
+        self.splits = counted(split, self.splits);
+    }
+
     // A refined cell of the tree takes what its centre child told.
     fn finish(&mut self, cell: &mut CellView)
         requires { IsViewIn self.old.keys.dim cell.old }
@@ -154,10 +192,10 @@ impl<'a> Secondary<'a> {
     }
 }
 
-impl<'a> Visitor for Secondary<'a> {
+impl<'a, S: Solver, G: Passes> Visitor for Secondary<'a, S, G> {
     ghost meaning = { λ s. record { serves = Plain; dim = s.keys.dim; new_grid = record { dim = s.keys.dim; refined = set.empty }; may_want = false; loan = 0 } };
 
-    ghost entered = { SecondaryEnters };
+    ghost entered = { SecondaryEnters (λ s. record { parts = S.parts_of s; updated = S.updated s; marked = S.marked s }) };
 
     ghost left = { SecondaryLeaves };
 
@@ -170,8 +208,20 @@ impl<'a> Visitor for Secondary<'a> {
             return Ok(());
         }
         let split = splits(cell);
-        leaf_intends(split).in_view(self.keys.dim(), cell);
-        self.splits = counted(split, self.splits);
+        if !is_enclave(cell, self.keys, self.tree) {
+            self.intend(None, split, cell);
+            return Ok(());
+        }
+        let own = home_value(self.keys.dim(), cell);
+        if !have_parts(self.solver.parts(), &own, &cell.sides) {
+            self.intend(None, split, cell);
+            return Ok(());
+        }
+        let next = self
+            .tasks
+            .answer(self.solver, self.gate, cell.key, &own, &cell.sides);
+        self.failing = failing(self.failing, cell.key, next);
+        self.intend(next, split, cell);
         Ok(())
     }
 

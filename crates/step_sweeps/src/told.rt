@@ -3,7 +3,7 @@ ghost use Rattle.std.specs.Prelude.{◌≡◌, ◌<◌};
 ghost use Rattle.peano_keys.specs.Dim.{corners};
 ghost use Rattle.step_sweeps.specs.Told.{intent_told, told_slot, told_record, told_corner, IsTold};
 
-use peano_keys::{Dim, Mark, State, slot_of};
+use peano_keys::{Dim, Mark, State, corner_count, slot_of};
 use peano_records::{CellView, Corner, Intent, Slot, Status, Stored};
 
 // What a visit tells of its cell, in the cell's slot at each of its stored corners. What is none stays as it was.
@@ -12,16 +12,6 @@ pub(crate) struct Told {
     pub(crate) mark: Option<Mark>,
     pub(crate) next: Option<State>,
     pub(crate) intent: Option<Intent>,
-}
-
-// How many corners a cell has.
-fn corner_count(dim: Dim) -> usize
-    ensures { result ≡ corners dim }
-{
-    match dim {
-        Dim::Two => 4,
-        Dim::Three => 8,
-    }
 }
 
 // An intent that fits a slot: only a leaf splits, and only a refined cell merges.
@@ -74,7 +64,7 @@ impl Told {
         ensures { IsTold dim self cell.old cell.new }
     {
         for n in 0..corner_count(dim) {
-            self.in_corner(dim, n as u32, &mut cell.corners[n]);
+            self.in_corner(dim, n, &mut cell.corners[n as usize]);
         }
     }
 }

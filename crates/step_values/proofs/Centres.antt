@@ -95,17 +95,17 @@ centre_cell k g c fits cell refined = child_cell k.dim c (centre_digits k.dim) c
 pub centre_there : (k : Cuts) (g : Spacetree) (c : CellKey) → IsCell k.dim c → is_refined g c ≡ true → has_cell g (centre_child k.dim c) ≡ true
 centre_there k g c cell refined = let d = centre_is_digits k.dim in child_there g c (centre_digits k.dim) cell.shape d.first d.second (third_digit k.dim (centre_digits k.dim) d) refined
 
-module _ (k : Cuts) (w : Change) (ready : CellKey → Bool) (t : ℕ) (before after : Store) (fits : IsCutGrid k w.old) (all : TreeSays k w.old t (AfterFirst w ready) before) (swept : IsSwept k w.old t (CentreChanges k w ready after t) before after) where
+module _ (k : Cuts) (w : Change) (t : ℕ) (before after : Store) (fits : IsCutGrid k w.old) (all : TreeSays k w.old t (AfterFirst k w) before) (swept : IsSwept k w.old t (CentreChanges k w after t) before after) where
   -- what stands at a place of a vertex that a tree has
   pub record IsPlace (v : VertexKey) (n : ℕ) (c : CellKey) : Type 0 where
     pub has : HasVertex k w.old t v
     pub below : n < corners k.dim
     pub at : adjacent_of k.dim v n ≡ Some c
 
-  effect : (v : VertexKey) (n : ℕ) (c : CellKey) → IsPlace v n c → CentreChanges k w ready after t c (slot_at (before v) n) (slot_at (after v) n)
+  effect : (v : VertexKey) (n : ℕ) (c : CellKey) → IsPlace v n c → CentreChanges k w after t c (slot_at (before v) n) (slot_at (after v) n)
   effect v n c p = (swept v p.has).inside n c p.below p.at
 
-  said : (v : VertexKey) (n : ℕ) (c : CellKey) → IsPlace v n c → AfterFirst w ready c (slot_at (before v) n)
+  said : (v : VertexKey) (n : ℕ) (c : CellKey) → IsPlace v n c → AfterFirst k w c (slot_at (before v) n)
   said v n c p = let says = all v p.has in says.inside n c p.below (subst (λ (u : VertexKey). adjacent_of k.dim u n ≡ Some c) (sym says.key) p.at)
 
   cell_at_place : (v : VertexKey) (n : ℕ) (c : CellKey) → IsPlace v n c → IsCell k.dim c × (has_cell w.old c ≡ true)
@@ -113,12 +113,12 @@ module _ (k : Cuts) (w : Change) (ready : CellKey → Bool) (t : ℕ) (before af
 
   -- the new value of a leaf that a tree owns
   leaf_made : (n : ℕ) (v : VertexKey) (c : CellKey) → IsPlace v n c → Owns k t c → is_refined w.old c ≡ false → Gives (w.next c) (slot_at (after v) n).next
-  leaf_made n v c p owns plain = elim (ready c) as (λ b. ready c ≡ b → Gives (w.next c) (slot_at (after v) n).next) [
-    | true ↦ λ r s h. e.kept owns leaf r ∙ (said v n c p).next leaf r s h
-    | false ↦ λ r. e.made owns leaf r
-  ] refl
+  leaf_made n v c p owns plain = ⊎_elim
+      (λ kept s h. kept.1 ∙ (said v n c p).next t kept.0 s h)
+      (λ made. made)
+      (e.leaf owns leaf)
     where
-      e : CentreChanges k w ready after t c (slot_at (before v) n) (slot_at (after v) n)
+      e : CentreChanges k w after t c (slot_at (before v) n) (slot_at (after v) n)
       e = effect v n c p
 
       leaf : is_leaf w.old c ≡ true
@@ -153,7 +153,7 @@ module _ (k : Cuts) (w : Change) (ready : CellKey → Bool) (t : ℕ) (before af
   ] refl
 
 pub centres_give_next : CentresGiveNext
-centres_give_next k w ready t before after fits takes all swept n v c has below at owns =
-    let place : IsPlace k w ready t before after fits all swept v n c = record { has = has; below = below; at = at } in
-    let here = cell_at_place k w ready t before after fits all swept v n c place in
-    next_made k w ready t before after fits all swept (12 - c.level) n v c takes place owns (omega (arith, here.0.level))
+centres_give_next k w t before after fits takes all swept n v c has below at owns =
+    let place : IsPlace k w t before after fits all swept v n c = record { has = has; below = below; at = at } in
+    let here = cell_at_place k w t before after fits all swept v n c place in
+    next_made k w t before after fits all swept (12 - c.level) n v c takes place owns (omega (arith, here.0.level))

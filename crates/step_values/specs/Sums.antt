@@ -30,4 +30,7 @@ pub record SumChanges (k : Cuts) (w : Change) (left_out : CellKey → Bool) (t :
 
 -- together they are a secondary sweep
 abbrev pub SumsComplete : Type 0
-SumsComplete = (k : Cuts) (w : Change) (left_out : CellKey → Bool) (t : ℕ) (before after : Store) → TreeSays k w.old t (AfterPart k w left_out t) before → IsSwept k w.old t (SumChanges k w left_out t) before after → TreeSays k w.old t (AfterSecondary k w t) after
+SumsComplete = (k : Cuts) (w : Change) (left_out : CellKey → Bool) (t : ℕ) (before after : Store)
+    → TreeSays k w.old t (AfterPart k w left_out t) before
+    → IsSwept k w.old t (SumChanges k w left_out t) before after
+    → TreeSays k w.old t (AfterSecondary k w t) after

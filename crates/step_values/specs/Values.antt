@@ -29,19 +29,28 @@ change_of updated marked g f new after = change_by value_of updated marked g f n
 
 -- what a rule owes to a step: the value of a leaf is its state
 abbrev pub ShowsLeaves : ValueRule → Type 0
-ShowsLeaves value = (g : Spacetree) (f : States) (c : CellKey) → is_leaf g c ≡ true → value g f c ≡ state_at f c
+ShowsLeaves value = (g : Spacetree) (f : States) (c : CellKey) → is_leaf g c ≡ true
+    → value g f c ≡ state_at f c
 
 -- and a leaf that is split has as value the one of each of its children
 abbrev pub SplitsEvenly : ValueRule → Spacetree → Spacetree → States → Type 0
-SplitsEvenly value g new after = (c : CellKey) → IsCell g.dim c → has_cell g c ≡ false → has_cell new c ≡ true → value new after (parent_of c) ≡ value new after c
+SplitsEvenly value g new after = (c : CellKey) → IsCell g.dim c → has_cell g c ≡ false
+    → has_cell new c ≡ true → value new after (parent_of c) ≡ value new after c
 
 -- then a step makes a change
 abbrev pub AnyValueIsChange : Type 0
-AnyValueIsChange = (value : ValueRule) (updated : UpdateRule) (marked : MarkRule) (g : Spacetree) (f : States) (new : Spacetree) (after : States) → IsGrid 12 g → IsGrid 12 new → IsStep updated marked g f new after → SplitsEvenly value g new after → IsChange (change_by value updated marked g f new after)
+AnyValueIsChange = (value : ValueRule) (updated : UpdateRule) (marked : MarkRule) (g : Spacetree)
+    (f : States) (new : Spacetree) (after : States)
+    → IsGrid 12 g → IsGrid 12 new → IsStep updated marked g f new after
+    → SplitsEvenly value g new after → IsChange (change_by value updated marked g f new after)
 
 -- in which the new value of a leaf is what the solver makes of it
 abbrev pub AnyLeafTakesNewState : Type 0
-AnyLeafTakesNewState = (value : ValueRule) (updated : UpdateRule) (marked : MarkRule) (g : Spacetree) (f : States) (new : Spacetree) (after : States) → IsGrid 12 g → IsGrid 12 new → IsStep updated marked g f new after → ShowsLeaves value → SplitsEvenly value g new after → (c : CellKey) → IsLeafOf g c → (change_by value updated marked g f new after).next c ≡ new_state updated g f c
+AnyLeafTakesNewState = (value : ValueRule) (updated : UpdateRule) (marked : MarkRule)
+    (g : Spacetree) (f : States) (new : Spacetree) (after : States)
+    → IsGrid 12 g → IsGrid 12 new → IsStep updated marked g f new after → ShowsLeaves value
+    → SplitsEvenly value g new after → (c : CellKey) → IsLeafOf g c
+    → (change_by value updated marked g f new after).next c ≡ new_state updated g f c
 
 -- the value of a cell shows the states of leaves
 abbrev pub ValueShowsLeaves : Type 0
@@ -49,12 +58,21 @@ ValueShowsLeaves = ShowsLeaves value_of
 
 -- and splits evenly in a step
 abbrev pub ValueSplitsEvenly : Type 0
-ValueSplitsEvenly = (updated : UpdateRule) (marked : MarkRule) (g : Spacetree) (f : States) (new : Spacetree) (after : States) → IsGrid 12 g → IsGrid 12 new → IsStep updated marked g f new after → SplitsEvenly value_of g new after
+ValueSplitsEvenly = (updated : UpdateRule) (marked : MarkRule) (g : Spacetree) (f : States)
+    (new : Spacetree) (after : States)
+    → IsGrid 12 g → IsGrid 12 new → IsStep updated marked g f new after
+    → SplitsEvenly value_of g new after
 
 -- so the change of a step is one
 abbrev pub StepIsChange : Type 0
-StepIsChange = (updated : UpdateRule) (marked : MarkRule) (g : Spacetree) (f : States) (new : Spacetree) (after : States) → IsGrid 12 g → IsGrid 12 new → IsStep updated marked g f new after → IsChange (change_of updated marked g f new after)
+StepIsChange = (updated : UpdateRule) (marked : MarkRule) (g : Spacetree) (f : States)
+    (new : Spacetree) (after : States)
+    → IsGrid 12 g → IsGrid 12 new → IsStep updated marked g f new after
+    → IsChange (change_of updated marked g f new after)
 
 -- in which the new value of a leaf is what the solver makes of it
 abbrev pub LeafTakesNewState : Type 0
-LeafTakesNewState = (updated : UpdateRule) (marked : MarkRule) (g : Spacetree) (f : States) (new : Spacetree) (after : States) → IsGrid 12 g → IsGrid 12 new → IsStep updated marked g f new after → (c : CellKey) → IsLeafOf g c → (change_of updated marked g f new after).next c ≡ new_state updated g f c
+LeafTakesNewState = (updated : UpdateRule) (marked : MarkRule) (g : Spacetree) (f : States)
+    (new : Spacetree) (after : States)
+    → IsGrid 12 g → IsGrid 12 new → IsStep updated marked g f new after → (c : CellKey)
+    → IsLeafOf g c → (change_of updated marked g f new after).next c ≡ new_state updated g f c

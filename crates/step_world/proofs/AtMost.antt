@@ -1,26 +1,21 @@
 -- Cells of a grid are no more than the grid has.
-use Rattle.std.proofs.Common.{◌≡◌, ℕ, zero, suc, ◌+◌, ◌*◌, ◌^◌, ◌≤◌, ◌||◌, Bool, true, false, inl, inr, refl, sym, ap, ◌∙◌, arith, List, [], ◌∷◌, length, length-append}
+use Rattle.std.proofs.Common.{◌≡◌, ℕ, zero, suc, ◌+◌, ◌*◌, ◌^◌, ◌≤◌, refl, sym, ap, ◌∙◌, arith, List, [], ◌∷◌, length, length-append}
 use Rattle.std.specs.FinSet as set
-use Rattle.std.specs.Ordering.{eq_by_cmp}
-use Rattle.std.proofs.lemmas.Bool.{false≢true}
 use Rattle.peano_keys.specs.declared.dim.Dim.{Dim}
 use Rattle.peano_keys.specs.declared.cell.CellKey.{CellKey}
 use Rattle.peano_keys.specs.declared.side.Mark.{Mark}
 use Rattle.peano_keys.specs.Dim.{axes}
-use Rattle.peano_keys.specs.Cell.{child_of, root, key_cmp}
+use Rattle.peano_keys.specs.Cell.{child_of, root}
 use Rattle.peano_keys.specs.Grid.{Spacetree, IsGrid}
 use Rattle.peano_keys.specs.Next.{Splits, Merges}
 use Rattle.hanging_nodes.proofs.TwoGrids.{refined_there}
-use Rattle.spacetree.specs.Counts.{CountsCells, EachOnce, cells_of}
+use Rattle.spacetree.specs.Counts.{CountsCells, cells_of}
 use Rattle.spacetree.specs.Digits.{IsKept, digits_at}
 use Rattle.spacetree.specs.Leaves.{is_among, IsCellOf}
 use Rattle.spacetree.proofs.CellCounts.{len_by_kept}
-use Rattle.spacetree.proofs.CellMaps.{cells_total, exact_cells}
-use Rattle.spacetree.proofs.CellSets.{same_key, len_by_insert}
 use Rattle.spacetree.proofs.Leaves.{leaf_there}
 use Rattle.step_world.specs.Counts.{CountsAtMost}
 use Rattle.spacetree.proofs.CountedSets.{as_many, in_list, listed_once, no_more, with_all}
-use Rattle.spacetree.proofs.Told.{true_told}
 use Rattle.spacetree.proofs.AllCells.{upto, cells_under, listed_under}
 
 -- the refined cells of a grid as a list

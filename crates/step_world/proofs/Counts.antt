@@ -1,5 +1,5 @@
 -- Counts of cells.
-use Rattle.std.proofs.Common.{◌≡◌, ◌⊎◌, inl, inr, ⊎_elim, ℕ, zero, suc, ◌+◌, ◌*◌, ◌^◌, ◌<◌, ◌≤◌, ◌||◌, Bool, true, false, cond, refl, sym, ap, subst, ◌∙◌, arith, List, [], ◌∷◌, ◌++◌, length, length-append}
+use Rattle.std.proofs.Common.{◌≡◌, ◌⊎◌, inl, inr, ⊎_elim, ℕ, zero, suc, ◌+◌, ◌*◌, ◌^◌, ◌<◌, ◌≤◌, ◌||◌, true, refl, sym, ap, subst, ◌∙◌, arith, List, [], ◌∷◌, ◌++◌, length-append}
 use Rattle.std.specs.FinSet as set
 use Rattle.std.specs.Cmp.{both_ways}
 use Rattle.std.specs.Ordering.{eq_by_cmp}
@@ -7,13 +7,12 @@ use Rattle.std.proofs.lemmas.Bool.{false≢true, cases_eq, or_left, or_right, or
 use Rattle.peano_keys.specs.declared.cell.CellKey.{CellKey}
 use Rattle.peano_keys.specs.Dim.{axes}
 use Rattle.peano_keys.specs.Cell.{IsCell, key_cmp}
-use Rattle.peano_keys.specs.Grid.{Cells, Spacetree, is_refined, has_cell}
+use Rattle.peano_keys.specs.Grid.{Spacetree, is_refined, has_cell}
 use Rattle.peano_keys.specs.Next.{Splits, Merges}
 use Rattle.hanging_nodes.proofs.TwoGrids.{leaf_not, refined_there}
 use Rattle.solver_api.specs.Step.{IsLeafOf, marks_of}
 use Rattle.spacetree.specs.Leaves.{is_among}
 use Rattle.spacetree.proofs.CellMaps.{cells_total, exact_cells}
-use Rattle.spacetree.proofs.CellSets.{itself}
 use Rattle.spacetree.proofs.Leaves.{leaf_there}
 use Rattle.curve_cuts.specs.Cuts.{Cuts, Owns, IsCutGrid}
 use Rattle.step_world.specs.Counts.{total, LeavesAddUp, SplitsAddUp, MergesAddUp, NextSize, SizeDecides}

@@ -78,18 +78,18 @@ field_of_next updated marked g f new after grid step c = (
 )
 
 pub step_stands : StepStands
-step_stands updated marked k g f new after ready s0 s1 s2 s3 s4 s5 s6 stands deep step moves adapted third =
+step_stands updated marked k g f new after s0 s1 s2 s3 s4 s5 s6 stands deep step moves adapted third =
     let grid = deep_grid k g stands.fits in
     let fits : IsCutGrid k new = next_is_cut k g new (marks_of marked g f) stands.fits step.grid (λ c h. deep (state_at f c) (sides_of g f c) c.level h) in
     let change = step_is_change updated marked g f new after grid (deep_grid k new fits) step in
     record {
       fits = fits;
       field = field_of_next updated marked g f new after grid step;
-      rest = whole_step k (change_of updated marked g f new after) ready s0 s1 s2 s3 s4 s5 s6 stands.fits fits change stands.rest moves adapted third;
+      rest = whole_step k (change_of updated marked g f new after) s0 s1 s2 s3 s4 s5 s6 stands.fits fits change stands.rest moves adapted third;
     }
 
 pub plain_step_stands : PlainStepStands
-plain_step_stands updated marked k g f new after ready s0 s1 s2 s3 s4 stands keeps step moves =
+plain_step_stands updated marked k g f new after s0 s1 s2 s3 s4 stands keeps step moves =
     let grid = deep_grid k g stands.fits in
     let same : new ≡ g = kept_grid_stays g new (marks_of marked g f) (λ c. keeps (state_at f c) (sides_of g f c) c.level) step.grid in
     let fits : IsCutGrid k new = subst (λ (t : Spacetree). IsCutGrid k t) (sym same) stands.fits in
@@ -97,7 +97,7 @@ plain_step_stands updated marked k g f new after ready s0 s1 s2 s3 s4 stands kee
     record {
       fits = fits;
       field = field_of_next updated marked g f new after grid step;
-      rest = plain_step k (change_of updated marked g f new after) ready s0 s1 s2 s3 s4 stands.fits change same stands.rest moves;
+      rest = plain_step k (change_of updated marked g f new after) s0 s1 s2 s3 s4 stands.fits change same stands.rest moves;
     }
 
 module _ (k : Cuts) (stores : Stores) (g h : Spacetree) (f e : States) (a : StandFor k stores g f) (b : StandFor k stores h e) where

@@ -56,16 +56,24 @@ step_notes z r step g h = computing_notes z r.trees step g ++ (if r.adapts then 
 
 -- the notes of a run up to the end of a step, with the grid and the field that it has then
 abbrev pub HasNotes : Sizes → Course → UpdateRule → MarkRule → Spacetree → States → ℕ → Spacetree → States → List Note → Type 0
-HasNotes z r updated marked g f zero h a ns = (h ≡ g) × (a ≡ f) × (ns ≡ by_trees r.trees (note_raised z g) ++ showing_notes z r 0 g)
-HasNotes z r updated marked g f (suc n) h a ns = (u : Spacetree) × (b : States) × (ms : List Note) × HasNotes z r updated marked g f n u b ms × IsServedStep updated marked u b h a × (ns ≡ ms ++ step_notes z r (suc n) u h ++ showing_notes z r (suc n) h)
+HasNotes z r updated marked g f zero h a ns = (h ≡ g) × (a ≡ f)
+    × (ns ≡ by_trees r.trees (note_raised z g) ++ showing_notes z r 0 g)
+HasNotes z r updated marked g f (suc n) h a ns = (u : Spacetree) × (b : States) × (ms : List Note)
+    × HasNotes z r updated marked g f n u b ms × IsServedStep updated marked u b h a
+    × (ns ≡ ms ++ step_notes z r (suc n) u h ++ showing_notes z r (suc n) h)
 
 -- notes are of the evaluation's grids and fields
 abbrev pub NotesAreOfEvaluation : Type 0
-NotesAreOfEvaluation = (z : Sizes) (r : Course) (updated : UpdateRule) (marked : MarkRule) (g : Spacetree) (f : States) (steps : ℕ) (h : Spacetree) (a : States) (ns : List Note) → HasNotes z r updated marked g f steps h a ns → Evaluates updated marked g f steps h a
+NotesAreOfEvaluation = (z : Sizes) (r : Course) (updated : UpdateRule) (marked : MarkRule)
+    (g : Spacetree) (f : States) (steps : ℕ) (h : Spacetree) (a : States) (ns : List Note)
+    → HasNotes z r updated marked g f steps h a ns → Evaluates updated marked g f steps h a
 
 -- and for each evaluation there are notes
 abbrev pub NotesExist : Type 0
-NotesExist = (z : Sizes) (r : Course) (updated : UpdateRule) (marked : MarkRule) (g : Spacetree) (f : States) (steps : ℕ) (h : Spacetree) (a : States) → Evaluates updated marked g f steps h a → (ns : List Note) × HasNotes z r updated marked g f steps h a ns
+NotesExist = (z : Sizes) (r : Course) (updated : UpdateRule) (marked : MarkRule) (g : Spacetree)
+    (f : States) (steps : ℕ) (h : Spacetree) (a : States)
+    → Evaluates updated marked g f steps h a
+    → (ns : List Note) × HasNotes z r updated marked g f steps h a ns
 
 -- a world as contracts see it
 pub record WorldSeen : Type 0 where
@@ -81,17 +89,23 @@ pub record IsAt (w : WorldSeen) (h : Spacetree) (a : States) (step : ℕ) : Type
   pub live : w.live ≡ true
   pub stores : StandFor w.cuts w.stores h a
   pub step_is : w.step ≡ step
-  pub tales : (n : ℕ) → n < w.cuts.trees → w.tales n ≡ tale_of (filter (λ (m : Note). m.tree == n) w.notes)
+  pub tales : (n : ℕ) → n < w.cuts.trees
+      → w.tales n ≡ tale_of (filter (λ (m : Note). m.tree == n) w.notes)
 
 -- where a run is done: the world is at the last grid and field of the evaluation, and has all notes
 pub record EndsDone (z : Sizes) (r : Course) (updated : UpdateRule) (marked : MarkRule) (g : Spacetree) (f : States) (steps : ℕ) (w : WorldSeen) : Type 0 where
   pub trees : w.cuts.trees ≡ r.trees
-  pub ends : (h : Spacetree) (a : States) → Evaluates updated marked g f steps h a → IsAt w h a steps × HasNotes z r updated marked g f steps h a w.notes
+  pub ends : (h : Spacetree) (a : States) → Evaluates updated marked g f steps h a
+      → IsAt w h a steps × HasNotes z r updated marked g f steps h a w.notes
 
 -- where step `suc n` is refused by an overflow or by too many cells: the notes go up to the secondary sweeps of that step
 abbrev pub EndsRefused : Sizes → Course → UpdateRule → MarkRule → Spacetree → States → ℕ → WorldSeen → Type 0
-EndsRefused z r updated marked g f n w = (u : Spacetree) × (b : States) × (ms : List Note) × HasNotes z r updated marked g f n u b ms × (w.notes ≡ ms ++ computing_notes z r.trees (suc n) u)
+EndsRefused z r updated marked g f n w = (u : Spacetree) × (b : States) × (ms : List Note)
+    × HasNotes z r updated marked g f n u b ms
+    × (w.notes ≡ ms ++ computing_notes z r.trees (suc n) u)
 
 -- where step `suc n` passes the limit on lines: they go up to the showing of that step
 abbrev pub EndsAtLines : Sizes → Course → UpdateRule → MarkRule → Spacetree → States → ℕ → WorldSeen → Type 0
-EndsAtLines z r updated marked g f n w = (u : Spacetree) × (b : States) × (h : Spacetree) × (a : States) × (ms : List Note) × HasNotes z r updated marked g f n u b ms × IsServedStep updated marked u b h a × (w.notes ≡ ms ++ step_notes z r (suc n) u h)
+EndsAtLines z r updated marked g f n w = (u : Spacetree) × (b : States) × (h : Spacetree)
+    × (a : States) × (ms : List Note) × HasNotes z r updated marked g f n u b ms
+    × IsServedStep updated marked u b h a × (w.notes ≡ ms ++ step_notes z r (suc n) u h)

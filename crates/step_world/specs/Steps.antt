@@ -16,16 +16,23 @@ use Rattle.curve_cuts.specs.Cuts.{Cuts, IsCutGrid}
 
 -- the next grid is one for the same trees
 abbrev pub NextIsCut : Type 0
-NextIsCut = (k : Cuts) (old new : Spacetree) (marks : CellKey → Mark) → IsCutGrid k old → IsNextGrid old marks new → ((c : CellKey) → marks c ≡ Refine → c.level < k.depth) → IsCutGrid k new
+NextIsCut = (k : Cuts) (old new : Spacetree) (marks : CellKey → Mark) → IsCutGrid k old
+    → IsNextGrid old marks new → ((c : CellKey) → marks c ≡ Refine → c.level < k.depth)
+    → IsCutGrid k new
 
 -- a solver's new states have as many values as the old ones
 abbrev pub KeepsParts : ℕ → UpdateRule → Type 0
-KeepsParts parts updated = (own : State) (sides : Sides) (level : ℕ) (new : State) → HaveParts parts own sides → updated own sides level ≡ Some new → count_of new ≡ parts
+KeepsParts parts updated = (own : State) (sides : Sides) (level : ℕ) (new : State)
+    → HaveParts parts own sides → updated own sides level ≡ Some new → count_of new ≡ parts
 
 -- then so do the states of the next field
 abbrev pub StepKeepsParts : Type 0
-StepKeepsParts = (parts : ℕ) (updated : UpdateRule) (marked : MarkRule) (g : Spacetree) (f : States) (new : Spacetree) (after : States) → IsGrid 12 g → IsFieldOn parts g f → KeepsParts parts updated → IsStep updated marked g f new after → IsFieldOn parts new after
+StepKeepsParts = (parts : ℕ) (updated : UpdateRule) (marked : MarkRule) (g : Spacetree) (f : States)
+    (new : Spacetree) (after : States)
+    → IsGrid 12 g → IsFieldOn parts g f → KeepsParts parts updated
+    → IsStep updated marked g f new after → IsFieldOn parts new after
 
 -- where each leaf is to be kept, the next grid is the grid itself
 abbrev pub KeptGridStays : Type 0
-KeptGridStays = (g new : Spacetree) (marks : CellKey → Mark) → ((c : CellKey) → marks c ≡ Keep) → IsNextGrid g marks new → new ≡ g
+KeptGridStays = (g new : Spacetree) (marks : CellKey → Mark) → ((c : CellKey) → marks c ≡ Keep)
+    → IsNextGrid g marks new → new ≡ g

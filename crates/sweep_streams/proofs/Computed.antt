@@ -10,7 +10,8 @@ use Rattle.peano_keys.specs.Grid.{Cells}
 use Rattle.peano_curve.specs.declared.order.Direction.{Direction}
 use Rattle.peano_curve.specs.declared.order.Direction.TheVariants.{Forward, Backward}
 use Rattle.stack_law.specs.Stack.{among, on_lane, pushed}
-use Rattle.sweep_visits.specs.Plan.{SweepPlan, is_held, all_of, corner_numbers}
+use Rattle.stack_walks.specs.Grids.{all_of}
+use Rattle.sweep_visits.specs.Plan.{SweepPlan, is_held, corner_numbers}
 use Rattle.sweep_visits.specs.Visits.{Visit, enter, leave, visits_at, visits_of}
 use Rattle.sweep_visits.specs.Runs.{next_in_run, previous_in_run, lane_between}
 use Rattle.sweep_visits.specs.Moves.{Move, take, put, pop, push, passing, same_cell, moves_at, moves_of, on_lanes, taken_by, put_by}

@@ -26,7 +26,7 @@ use Rattle.stack_law.proofs.Ways.{ways_follow_the_order}
 use Rattle.stack_walks.specs.Corners.{Corner, all_corners, vertex, given_at, taken_at, by_corners}
 use Rattle.stack_walks.specs.Counts.{Kept, kept_vertex, all_given, given_by, is_end, is_corner_of, run_of}
 use Rattle.stack_walks.specs.Instances.{lane_events}
-use Rattle.stack_walks.specs.Passing as box_passing
+use Rattle.stack_walks.specs.Passing.{BoxPassing, box_passing}
 use Rattle.stack_walks.specs.Streams.{given_out}
 use Rattle.stack_walks.proofs.GivenCorners.{and_true, in_some, same_box_self, same_box_exact}
 use Rattle.stack_walks.proofs.Handing.{and_both}
@@ -183,28 +183,28 @@ module _ (p : SweepPlan) (plan : IsSweepPlan p) where
   every = visits (dir p plan) (axis p plan) (is_cell p plan) (S p plan) domain.root walls
 
   -- a passing of boxes by its keys
-  abbrev keyed : box_passing.Passing → Passing
+  abbrev keyed : BoxPassing → Passing
   keyed x = name p x.splits x.vertex x.cell
 
-  abbrev box_events : box.Visit → List (Event box_passing.Passing)
-  box_events = by_corners box_passing.Passing box_passing.passing going coming
+  abbrev box_events : box.Visit → List (Event BoxPassing)
+  box_events = by_corners BoxPassing box_passing going coming
 
   events_keyed : (w : box.Visit) → by_corners Passing (name p) going coming w ≡ map (event_map keyed) (box_events w)
   events_keyed (box.enter m b io) =
-      flat_same (λ c. over_faces (taken_at Passing (name p) going coming m b c)) (λ c. map (event_map keyed) (over_faces (taken_at box_passing.Passing box_passing.passing going coming m b c))) (λ c. one c) (reverse all_corners)
-      ∙ sym (map_flat (event_map keyed) (λ c. over_faces (taken_at box_passing.Passing box_passing.passing going coming m b c)) (reverse all_corners))
+      flat_same (λ c. over_faces (taken_at Passing (name p) going coming m b c)) (λ c. map (event_map keyed) (over_faces (taken_at BoxPassing box_passing going coming m b c))) (λ c. one c) (reverse all_corners)
+      ∙ sym (map_flat (event_map keyed) (λ c. over_faces (taken_at BoxPassing box_passing going coming m b c)) (reverse all_corners))
     where
-      one : (c : Corner) → over_faces (taken_at Passing (name p) going coming m b c) ≡ map (event_map keyed) (over_faces (taken_at box_passing.Passing box_passing.passing going coming m b c))
-      one c = (let h = λ (i : Axis) (s : Side). map_if (event_map keyed) (coming m b c i s) (record { on = lane i s b; step = stack.pop (box_passing.passing m (vertex b c) b) }) in rw (h first low, h first high, h second low, h second high, h third low, h third high) (sym (over_map (event_map keyed) (taken_at box_passing.Passing box_passing.passing going coming m b c))))
+      one : (c : Corner) → over_faces (taken_at Passing (name p) going coming m b c) ≡ map (event_map keyed) (over_faces (taken_at BoxPassing box_passing going coming m b c))
+      one c = (let h = λ (i : Axis) (s : Side). map_if (event_map keyed) (coming m b c i s) (record { on = lane i s b; step = stack.pop (box_passing m (vertex b c) b) }) in rw (h first low, h first high, h second low, h second high, h third low, h third high) (sym (over_map (event_map keyed) (taken_at BoxPassing box_passing going coming m b c))))
   events_keyed (box.leave m b io) =
-      flat_same (λ c. over_faces (given_at Passing (name p) going coming m b c)) (λ c. map (event_map keyed) (over_faces (given_at box_passing.Passing box_passing.passing going coming m b c))) (λ c. one c) all_corners
-      ∙ sym (map_flat (event_map keyed) (λ c. over_faces (given_at box_passing.Passing box_passing.passing going coming m b c)) all_corners)
+      flat_same (λ c. over_faces (given_at Passing (name p) going coming m b c)) (λ c. map (event_map keyed) (over_faces (given_at BoxPassing box_passing going coming m b c))) (λ c. one c) all_corners
+      ∙ sym (map_flat (event_map keyed) (λ c. over_faces (given_at BoxPassing box_passing going coming m b c)) all_corners)
     where
-      one : (c : Corner) → over_faces (given_at Passing (name p) going coming m b c) ≡ map (event_map keyed) (over_faces (given_at box_passing.Passing box_passing.passing going coming m b c))
-      one c = (let h = λ (i : Axis) (s : Side). map_if (event_map keyed) (going m b c i s) (record { on = lane i s b; step = stack.push (box_passing.passing m (vertex b c) (beyond i s b)) }) in rw (h first low, h first high, h second low, h second high, h third low, h third high) (sym (over_map (event_map keyed) (given_at box_passing.Passing box_passing.passing going coming m b c))))
+      one : (c : Corner) → over_faces (given_at Passing (name p) going coming m b c) ≡ map (event_map keyed) (over_faces (given_at BoxPassing box_passing going coming m b c))
+      one c = (let h = λ (i : Axis) (s : Side). map_if (event_map keyed) (going m b c i s) (record { on = lane i s b; step = stack.push (box_passing m (vertex b c) (beyond i s b)) }) in rw (h first low, h first high, h second low, h second high, h third low, h third high) (sym (over_map (event_map keyed) (given_at BoxPassing box_passing going coming m b c))))
 
   box_lanes : lane_events (dir p plan) (axis p plan) (is_cell p plan) (S p plan) (seen_at p plan) (opened p plan) (kept_at (dim_of p) p.depth (is_kept p)) ≡ flat_map box_events every
-  box_lanes = walk_is (dir p plan) (axis p plan) (is_cell p plan) (Event box_passing.Passing) box_events (seen_at p plan) (opened p plan) (corners_quiet (dir p plan) (axis p plan) (S p plan) (seen_at p plan) (kept_at (dim_of p) p.depth (is_kept p))) (S p plan) (closed p plan) (S p plan) domain.root walls (omega arith)
+  box_lanes = walk_is (dir p plan) (axis p plan) (is_cell p plan) (Event BoxPassing) box_events (seen_at p plan) (opened p plan) (corners_quiet (dir p plan) (axis p plan) (S p plan) (seen_at p plan) (kept_at (dim_of p) p.depth (is_kept p))) (S p plan) (closed p plan) (S p plan) domain.root walls (omega arith)
 
   pushes_by_boxes : length (pushed_by (moves_of p)) ≡ length (all_given (lane_events (dir p plan) (axis p plan) (is_cell p plan) (S p plan) (seen_at p plan) (opened p plan) (kept_at (dim_of p) p.depth (is_kept p))))
   pushes_by_boxes =

@@ -41,7 +41,8 @@ centre = cell 1 1 1
 
 -- Nine cells and the root: twenty vertices, as many pushes.
 abbrev pub NineCells : Type 0
-NineCells = (r : Cells) → AreRefined r (root ∷ []) → Moves (sweep (Some (grid Two r)) (grid Two r) 1 0 9 Forward) 10 20 20 20
+NineCells = (r : Cells) → AreRefined r (root ∷ [])
+    → Moves (sweep (Some (grid Two r)) (grid Two r) 1 0 9 Forward) 10 20 20 20
 
 -- The same with the centre refined once more: twenty-four vertices are stored, and thirty-two passings go on lanes, in both directions.
 abbrev pub RefinedCentre : Type 0
@@ -51,19 +52,24 @@ RefinedCentre = (r : Cells) → AreRefined r (root ∷ centre ∷ []) →
 
 -- A raising sweep over it takes nothing.
 abbrev pub RaisedCentre : Type 0
-RaisedCentre = (r : Cells) → AreRefined r (root ∷ centre ∷ []) → Moves (sweep None (grid Two r) 2 0 81 Forward) 19 0 24 32
+RaisedCentre = (r : Cells) → AreRefined r (root ∷ centre ∷ [])
+    → Moves (sweep None (grid Two r) 2 0 81 Forward) 19 0 24 32
 
 -- A range that ends inside the centre cell: it holds five of the nine cells, the centre among them, and four of its nine children.
 abbrev pub CutCentre : Type 0
-CutCentre = (r : Cells) → AreRefined r (root ∷ centre ∷ []) → Moves (sweep (Some (grid Two r)) (grid Two r) 2 0 40 Forward) 10 18 18 12
+CutCentre = (r : Cells) → AreRefined r (root ∷ centre ∷ [])
+    → Moves (sweep (Some (grid Two r)) (grid Two r) 2 0 40 Forward) 10 18 18 12
 
 -- One cell merges while its neighbour splits: the cells of both grids are visited, twenty-nine vertices of the old grid are taken, and twenty-six of the new one put.
 abbrev pub OneMergesOneSplits : Type 0
-OneMergesOneSplits = (old new : Cells) → AreRefined old (root ∷ cell 1 0 0 ∷ []) → AreRefined new (root ∷ cell 1 0 1 ∷ []) → Moves (sweep (Some (grid Two old)) (grid Two new) 2 0 81 Forward) 28 29 26 50
+OneMergesOneSplits = (old new : Cells) → AreRefined old (root ∷ cell 1 0 0 ∷ [])
+    → AreRefined new (root ∷ cell 1 0 1 ∷ [])
+    → Moves (sweep (Some (grid Two old)) (grid Two new) 2 0 81 Forward) 28 29 26 50
 
 -- Twenty-seven cells in space and the root.
 abbrev pub TwentySevenCells : Type 0
-TwentySevenCells = (r : Cells) → AreRefined r (root ∷ []) → Moves (sweep (Some (grid Three r)) (grid Three r) 1 0 27 Forward) 28 72 72 152
+TwentySevenCells = (r : Cells) → AreRefined r (root ∷ [])
+    → Moves (sweep (Some (grid Three r)) (grid Three r) 1 0 27 Forward) 28 72 72 152
 
 -- what a sweep pushes on a lane, the first first
 abbrev pub pushed_on : SweepPlan → ℕ → List Passing
@@ -71,8 +77,8 @@ pushed_on p k = pushed (on_lane k (on_lanes (moves_of p)))
 
 -- What nine cells push on each of their four lanes: each vertex on its way to the next cell of its run.
 abbrev pub LanesOfNineCells : Type 0
-LanesOfNineCells = (r : Cells) → AreRefined r (root ∷ []) →
-    (pushed_on (sweep (Some (grid Two r)) (grid Two r) 1 0 9 Forward) 0 ≡ passing (vertex 1 2 3) (cell 1 2 2) ∷ passing (vertex 1 2 2) (cell 1 2 1) ∷ passing (vertex 1 2 0) (cell 1 2 0) ∷ passing (vertex 1 2 1) (cell 1 2 0) ∷ [])
+LanesOfNineCells = (r : Cells) → AreRefined r (root ∷ [])
+    → (pushed_on (sweep (Some (grid Two r)) (grid Two r) 1 0 9 Forward) 0 ≡ passing (vertex 1 2 3) (cell 1 2 2) ∷ passing (vertex 1 2 2) (cell 1 2 1) ∷ passing (vertex 1 2 0) (cell 1 2 0) ∷ passing (vertex 1 2 1) (cell 1 2 0) ∷ [])
     × (pushed_on (sweep (Some (grid Two r)) (grid Two r) 1 0 9 Forward) 1 ≡ passing (vertex 1 1 0) (cell 1 1 0) ∷ passing (vertex 1 1 1) (cell 1 1 1) ∷ passing (vertex 1 1 2) (cell 1 1 2) ∷ passing (vertex 1 1 3) (cell 1 1 2) ∷ [])
     × (pushed_on (sweep (Some (grid Two r)) (grid Two r) 1 0 9 Forward) 2 ≡ passing (vertex 1 0 2) (cell 1 0 2) ∷ passing (vertex 1 1 2) (cell 1 0 2) ∷ passing (vertex 1 1 2) (cell 1 1 1) ∷ passing (vertex 1 2 2) (cell 1 1 1) ∷ passing (vertex 1 2 2) (cell 1 2 2) ∷ passing (vertex 1 3 2) (cell 1 2 2) ∷ [])
     × (pushed_on (sweep (Some (grid Two r)) (grid Two r) 1 0 9 Forward) 3 ≡ passing (vertex 1 0 1) (cell 1 0 1) ∷ passing (vertex 1 1 1) (cell 1 0 1) ∷ passing (vertex 1 1 1) (cell 1 1 0) ∷ passing (vertex 1 2 1) (cell 1 1 0) ∷ passing (vertex 1 2 1) (cell 1 2 1) ∷ passing (vertex 1 3 1) (cell 1 2 1) ∷ [])

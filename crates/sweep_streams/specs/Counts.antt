@@ -24,11 +24,15 @@ pub record ListsVertices (p : SweepPlan) (test : VertexKey → Bool) (vs : List 
 
 -- A sweep takes each vertex of the tree that the old grid stores, and puts each that the new grid stores, once.
 abbrev pub StreamsAreStored : Type 0
-StreamsAreStored = (p : SweepPlan) → IsSweepPlan p → ListsVertices p (is_stored_in p.old) (taken_by (moves_of p)) × ListsVertices p (is_stored p.new) (put_by (moves_of p))
+StreamsAreStored = (p : SweepPlan) → IsSweepPlan p
+    → ListsVertices p (is_stored_in p.old) (taken_by (moves_of p))
+    × ListsVertices p (is_stored p.new) (put_by (moves_of p))
 
 -- The run of a vertex is the list of the cells that are held round it, each once.
 abbrev pub RunIsHeldRound : Type 0
-RunIsHeldRound = (p : SweepPlan) (v : VertexKey) → IsVertex (dim_of p) v → AreDistinct same_cell (held_round p v) × ((c : CellKey) → IsIn c (held_round p v) ↔ InRun (dim_of p) v p.range p.depth c)
+RunIsHeldRound = (p : SweepPlan) (v : VertexKey) → IsVertex (dim_of p) v
+    → AreDistinct same_cell (held_round p v)
+    × ((c : CellKey) → IsIn c (held_round p v) ↔ InRun (dim_of p) v p.range p.depth c)
 
 -- what a move pushes
 abbrev pub pushed_part : Move → List Passing

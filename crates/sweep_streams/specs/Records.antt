@@ -42,11 +42,13 @@ pub record ListsCells (p : SweepPlan) (test : CellKey → Bool) (cs : List CellK
 
 -- A sweep reads the record of each held cell of the old grid, and writes that of each held cell of the new one, once.
 abbrev pub RecordsAreOfHeldCells : Type 0
-RecordsAreOfHeldCells = (p : SweepPlan) → IsSweepPlan p → ListsCells p (is_cell_in p.old) (read_by p) × ListsCells p (has_cell p.new) (written_by p)
+RecordsAreOfHeldCells = (p : SweepPlan) → IsSweepPlan p
+    → ListsCells p (is_cell_in p.old) (read_by p) × ListsCells p (has_cell p.new) (written_by p)
 
 -- The records that a sweep writes, read from their end, are those that the next sweep reads.
 abbrev pub NextSweepReadsTheRecords : Type 0
-NextSweepReadsTheRecords = (p q : SweepPlan) → IsSweepPlan p → IsSweepPlan q → ComesAfter p q → reverse (written_by p) ≡ read_by q
+NextSweepReadsTheRecords = (p q : SweepPlan) → IsSweepPlan p → IsSweepPlan q → ComesAfter p q
+    → reverse (written_by p) ≡ read_by q
 
 -- a cell of the old or the new grid
 abbrev pub in_grids : SweepPlan → CellKey → Bool
@@ -64,11 +66,15 @@ left_at (leave c) = c ∷ []
 
 -- Each held cell of the old or the new grid is entered once and left once.
 abbrev pub EachHeldCellOnce : Type 0
-EachHeldCellOnce = (p : SweepPlan) → IsSweepPlan p → ListsCells p (in_grids p) (flat_map entered_at (visits_of p)) × ListsCells p (in_grids p) (flat_map left_at (visits_of p))
+EachHeldCellOnce = (p : SweepPlan) → IsSweepPlan p
+    → ListsCells p (in_grids p) (flat_map entered_at (visits_of p))
+    × ListsCells p (in_grids p) (flat_map left_at (visits_of p))
 
 -- The parent of a visited cell is visited, and the sweep goes below it.
 abbrev pub ParentsAreVisited : Type 0
-ParentsAreVisited = (p : SweepPlan) → IsSweepPlan p → (c : CellKey) → 0 < c.level → is_visited p c ≡ true → (is_visited p (parent_of c) ≡ true) × (is_opened p (parent_of c) ≡ true)
+ParentsAreVisited = (p : SweepPlan) → IsSweepPlan p → (c : CellKey) → 0 < c.level
+    → is_visited p c ≡ true
+    → (is_visited p (parent_of c) ≡ true) × (is_opened p (parent_of c) ≡ true)
 
 -- the sweep the other way
 abbrev pub turned_plan : SweepPlan → SweepPlan
@@ -81,4 +87,5 @@ turned_visit (leave c) = enter c
 
 -- A sweep the other way makes the same visits from the last to the first, with enters and leaves exchanged.
 abbrev pub BackwardSweepIsReversed : Type 0
-BackwardSweepIsReversed = (p : SweepPlan) → visits_of (turned_plan p) ≡ reverse (map turned_visit (visits_of p))
+BackwardSweepIsReversed = (p : SweepPlan)
+    → visits_of (turned_plan p) ≡ reverse (map turned_visit (visits_of p))

@@ -14,8 +14,11 @@ pub record ComesAfter (p q : SweepPlan) : Type 0 where
 
 -- The output of a sweep, read from its end, is what the next sweep takes from its input.
 abbrev pub NextSweepReadsTheOutput : Type 0
-NextSweepReadsTheOutput = (p q : SweepPlan) → IsSweepPlan p → IsSweepPlan q → ComesAfter p q → reverse (put_by (moves_of p)) ≡ taken_by (moves_of q)
+NextSweepReadsTheOutput = (p q : SweepPlan) → IsSweepPlan p → IsSweepPlan q → ComesAfter p q
+    → reverse (put_by (moves_of p)) ≡ taken_by (moves_of q)
 
 -- No vertex is taken twice from the input, and none is put twice to the output.
 abbrev pub NoneTakenTwice : Type 0
-NoneTakenTwice = (p : SweepPlan) → IsSweepPlan p → AreDistinct same_vertex (taken_by (moves_of p)) × AreDistinct same_vertex (put_by (moves_of p))
+NoneTakenTwice = (p : SweepPlan) → IsSweepPlan p
+    → AreDistinct same_vertex (taken_by (moves_of p))
+    × AreDistinct same_vertex (put_by (moves_of p))

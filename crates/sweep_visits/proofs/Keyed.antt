@@ -6,7 +6,8 @@ use Rattle.peano_keys.specs.declared.dim.Dim.TheVariants.{Two, Three}
 use Rattle.peano_keys.specs.Dim.{axes}
 use Rattle.peano_keys.specs.Cell.{triple, root}
 use Rattle.peano_curve.specs.declared.order.Direction.{Direction}
-use Rattle.peano_curve.specs.Order.{turned, nth_from}
+use Rattle.stack_law.specs.Digits.{turned}
+use Rattle.peano_curve.specs.Order.{nth_from}
 use Rattle.peano_curve.proofs.Splits.{turned_same}
 use Rattle.stack_law.specs.Boxes.{Box, first, second, third, lower, middle, upper, column, moved}
 use Rattle.stack_law.specs.Visits as box

@@ -6,9 +6,10 @@ use Rattle.std.proofs.Math.Nat.{pow-succ', mul-le-mul_right}
 use Rattle.peano_keys.specs.declared.cell.CellKey.{CellKey}
 use Rattle.peano_keys.specs.declared.dim.Dim.{Dim}
 use Rattle.peano_keys.specs.declared.dim.Dim.TheVariants.{Two, Three}
+use Rattle.peano_keys.specs.Dim.{children}
 use Rattle.peano_keys.specs.Cell.{at, parent_of}
 use Rattle.peano_keys.specs.Grid.{Spacetree, has_cell, is_refined, IsGrid}
-use Rattle.peano_curve.specs.Order.{children, place_of, sibling_place, rank_of}
+use Rattle.peano_curve.specs.Order.{place_of, sibling_place, rank_of}
 use Rattle.peano_curve.proofs.Ranks.{rank_of-step}
 use Rattle.stack_walks.proofs.GivenCorners.{and_true}
 use Rattle.stack_walks.proofs.Handing.{and_both}

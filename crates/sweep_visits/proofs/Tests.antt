@@ -6,15 +6,16 @@ use Rattle.peano_keys.specs.declared.cell.CellKey.{CellKey}
 use Rattle.peano_keys.specs.declared.vertex.VertexKey.{VertexKey}
 use Rattle.peano_keys.specs.declared.dim.Dim.{Dim}
 use Rattle.peano_keys.specs.declared.dim.Dim.TheVariants.{Two, Three}
-use Rattle.peano_keys.specs.Dim.{corners}
+use Rattle.peano_keys.specs.Dim.{corners, children}
 use Rattle.peano_keys.specs.Cell.{IsCell}
 use Rattle.peano_keys.specs.Vertex.{IsVertex, Touches, adjacent_of}
 use Rattle.peano_keys.specs.Grid.{Spacetree, IsStored}
 use Rattle.peano_keys.proofs.Positions.{position, position_below, at_position, adjacent_touches}
-use Rattle.peano_curve.specs.Order.{children, rank_of}
+use Rattle.peano_curve.specs.Order.{rank_of}
 use Rattle.peano_curve.specs.Run.{HoldsCell}
 use Rattle.stack_walks.proofs.GivenCorners.{and_true}
-use Rattle.sweep_visits.specs.Plan.{SweepPlan, dim_of, is_held, corner_numbers, all_of, is_settled, is_stored}
+use Rattle.stack_walks.specs.Grids.{all_of}
+use Rattle.sweep_visits.specs.Plan.{SweepPlan, dim_of, is_held, corner_numbers, is_settled, is_stored}
 
 pub held_tells : (p : SweepPlan) (c : CellKey) → is_held p c ≡ true → HoldsCell (dim_of p) p.depth p.range c
 held_tells p c t =

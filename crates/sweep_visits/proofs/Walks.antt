@@ -6,7 +6,8 @@ use Rattle.peano_keys.specs.declared.dim.Dim.TheVariants.{Two, Three}
 use Rattle.peano_keys.specs.Cell.{at}
 use Rattle.peano_curve.specs.declared.order.Direction.{Direction}
 use Rattle.peano_curve.specs.declared.order.Direction.TheVariants.{Forward, Backward}
-use Rattle.peano_curve.specs.Order.{turned, nth_from, child_along}
+use Rattle.stack_law.specs.Digits.{turned}
+use Rattle.peano_curve.specs.Order.{nth_from, child_along}
 use Rattle.stack_law.specs.Boxes as boxes
 use Rattle.stack_law.specs.Boxes.{Axis, Box, Column, first, second, third, lower, middle, upper, shift, column, moved, ascends}
 use Rattle.stack_law.specs.Visits as box

@@ -11,10 +11,12 @@ use Rattle.sweep_visits.specs.Moves.{Passing, same_passing, moves_of, on_lanes}
 
 -- Lanes never mix: each pop finds its passing on top, at the end all lanes are empty, and at each moment a lane holds what was given and not taken, in the order in which it was given.
 abbrev pub LanesNeverMix : Type 0
-LanesNeverMix = (p : SweepPlan) → IsSweepPlan p → UseStacks Passing same_passing (on_lanes (moves_of p))
+LanesNeverMix = (p : SweepPlan) → IsSweepPlan p
+    → UseStacks Passing same_passing (on_lanes (moves_of p))
 
 -- The next cell and the previous one of a held cell are those of the vertex's held run; there is none at its ends.
 abbrev pub NextIsOfTheRun : Type 0
-NextIsOfTheRun = (p : SweepPlan) (v : VertexKey) (c : CellKey) → IsVertex (dim_of p) v → InRun (dim_of p) v p.range p.depth c →
-    MatchOption (next_in_run p v c) (IsLast p.dir (dim_of p) v p.range p.depth c) (λ q. Follows p.dir (dim_of p) v p.range p.depth c q)
+NextIsOfTheRun = (p : SweepPlan) (v : VertexKey) (c : CellKey) → IsVertex (dim_of p) v
+    → InRun (dim_of p) v p.range p.depth c
+    → MatchOption (next_in_run p v c) (IsLast p.dir (dim_of p) v p.range p.depth c) (λ q. Follows p.dir (dim_of p) v p.range p.depth c q)
     × MatchOption (previous_in_run p v c) (IsFirst p.dir (dim_of p) v p.range p.depth c) (λ q. Follows p.dir (dim_of p) v p.range p.depth q c)

@@ -45,8 +45,10 @@ pub record Does (x : Move) (a b : VertexLists) : Type 0 where
 
 -- The next move can be made: the vertex that it takes is the first of the input, the vertex that it pops is the last of its lane. And it leads to the next moment.
 abbrev pub EachMoveFindsItsVertex : Type 0
-EachMoveFindsItsVertex = (p : SweepPlan) → IsSweepPlan p → (made more : List Move) (x : Move) (a : VertexLists) → IsMoment p made (x ∷ more) a →
-    ((b : VertexLists) × Does x a b) × ((b : VertexLists) → Does x a b → IsMoment p (made ++ x ∷ []) more b)
+EachMoveFindsItsVertex = (p : SweepPlan) → IsSweepPlan p
+    → (made more : List Move) (x : Move) (a : VertexLists) → IsMoment p made (x ∷ more) a
+    → ((b : VertexLists) × Does x a b)
+    × ((b : VertexLists) → Does x a b → IsMoment p (made ++ x ∷ []) more b)
 
 -- the lists where a sweep begins
 abbrev pub lists_before : SweepPlan → VertexLists
@@ -58,7 +60,9 @@ lists_after p = record { input = []; output = put_by (moves_of p); lanes = λ k.
 
 -- A sweep begins and ends with empty lanes; it takes the whole input.
 abbrev pub SweepBeginsAndEnds : Type 0
-SweepBeginsAndEnds = (p : SweepPlan) → IsSweepPlan p → IsMoment p [] (moves_of p) (lists_before p) × ((a : VertexLists) → IsMoment p (moves_of p) [] a → a ≡ lists_after p)
+SweepBeginsAndEnds = (p : SweepPlan) → IsSweepPlan p
+    → IsMoment p [] (moves_of p) (lists_before p)
+    × ((a : VertexLists) → IsMoment p (moves_of p) [] a → a ≡ lists_after p)
 
 -- the moves of some visits
 abbrev pub moves_by : SweepPlan → List Visit → List Move
@@ -66,7 +70,8 @@ moves_by p vs = flat_map (moves_at p) vs
 
 -- Visits that were made and visits to come part the moves.
 abbrev pub VisitsSplitMoves : Type 0
-VisitsSplitMoves = (p : SweepPlan) (made more : List Visit) → visits_of p ≡ made ++ more → moves_of p ≡ moves_by p made ++ moves_by p more
+VisitsSplitMoves = (p : SweepPlan) (made more : List Visit) → visits_of p ≡ made ++ more
+    → moves_of p ≡ moves_by p made ++ moves_by p more
 
 -- what the corners below a number move when their cell is entered, the last first
 abbrev pub arrivals_below : SweepPlan → CellKey → ℕ → List Move
@@ -80,4 +85,6 @@ departures_from p c n (suc more) = corner_out p c (corner_of c n) ++ departures_
 
 -- A visit moves its corners one after another.
 abbrev pub CornersInTurn : Type 0
-CornersInTurn = (p : SweepPlan) (c : CellKey) → (moves_at p (enter c) ≡ arrivals_below p c (corners (dim_of p))) × (moves_at p (leave c) ≡ departures_from p c 0 (corners (dim_of p)))
+CornersInTurn = (p : SweepPlan) (c : CellKey)
+    → (moves_at p (enter c) ≡ arrivals_below p c (corners (dim_of p)))
+    × (moves_at p (leave c) ≡ departures_from p c 0 (corners (dim_of p)))

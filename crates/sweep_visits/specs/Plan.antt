@@ -9,6 +9,7 @@ use Rattle.peano_keys.specs.Grid.{Spacetree, has_cell, is_refined, IsGrid}
 use Rattle.peano_curve.specs.declared.order.Direction.{Direction}
 use Rattle.peano_curve.specs.declared.range.Range.{Range}
 use Rattle.peano_curve.specs.Order.{interval_of}
+use Rattle.stack_walks.specs.Grids.{all_of}
 
 -- a sweep of a tree: the old grid is none where the sweep raises a grid, and the new one where it changes nothing
 pub record SweepPlan : Type 0 where
@@ -63,11 +64,6 @@ is_opened p c = is_refined_in p.old c || is_refined p.new c
 abbrev pub corner_numbers : Dim → List ℕ
 corner_numbers Two = 0 ∷ 1 ∷ 2 ∷ 3 ∷ []
 corner_numbers Three = 0 ∷ 1 ∷ 2 ∷ 3 ∷ 4 ∷ 5 ∷ 6 ∷ 7 ∷ []
-
--- whether all items pass a test
-abbrev pub all_of : {A : Type 0} → (A → Bool) → List A → Bool
-all_of f [] = true
-all_of f (x ∷ xs) = f x && all_of f xs
 
 -- a position is outside the domain, or has a cell of the grid
 abbrev pub is_settled : Spacetree → Option CellKey → Bool

@@ -24,8 +24,10 @@ Arrives p v c ms =
 
 -- Each kept corner of a held cell has exactly one way out and one way in: that by the held run of its vertex.
 abbrev pub EachCornerHasOneWay : Type 0
-EachCornerHasOneWay = (p : SweepPlan) (v : VertexKey) (c : CellKey) → IsVertex (dim_of p) v → InRun (dim_of p) v p.range p.depth c → is_kept p v ≡ true →
-    ((ms : List Move) → Departs p v c ms ↔ (ms ≡ corner_out p c v)) × ((ms : List Move) → Arrives p v c ms ↔ (ms ≡ corner_in p c v))
+EachCornerHasOneWay = (p : SweepPlan) (v : VertexKey) (c : CellKey) → IsVertex (dim_of p) v
+    → InRun (dim_of p) v p.range p.depth c → is_kept p v ≡ true
+    → ((ms : List Move) → Departs p v c ms ↔ (ms ≡ corner_out p c v))
+    × ((ms : List Move) → Arrives p v c ms ↔ (ms ≡ corner_in p c v))
 
 -- The tests of held cells and of stored vertices are exact.
 abbrev pub TestsAreExact : Type 0
@@ -35,4 +37,6 @@ TestsAreExact =
 
 -- A corner of a held cell is a vertex, and the cell is one of its run.
 abbrev pub CornersHaveRuns : Type 0
-CornersHaveRuns = (p : SweepPlan) (c : CellKey) (n : ℕ) → IsCell (dim_of p) c → is_held p c ≡ true → n < corners (dim_of p) → IsVertex (dim_of p) (corner_of c n) × InRun (dim_of p) (corner_of c n) p.range p.depth c
+CornersHaveRuns = (p : SweepPlan) (c : CellKey) (n : ℕ) → IsCell (dim_of p) c → is_held p c ≡ true
+    → n < corners (dim_of p)
+    → IsVertex (dim_of p) (corner_of c n) × InRun (dim_of p) (corner_of c n) p.range p.depth c

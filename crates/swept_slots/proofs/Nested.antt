@@ -3,8 +3,9 @@ use Rattle.std.proofs.Common.{◌≡◌, ◌≢◌, ◌⊎◌, ℕ, zero, suc, �
 use Rattle.std.proofs.lemmas.Bool.{cases_lt}
 use Rattle.peano_keys.specs.declared.cell.CellKey.{CellKey}
 use Rattle.peano_keys.specs.declared.dim.Dim.{Dim}
+use Rattle.peano_keys.specs.Dim.{children}
 use Rattle.peano_curve.specs.declared.order.Direction.{Direction}
-use Rattle.peano_curve.specs.Order.{children, child_along}
+use Rattle.peano_curve.specs.Order.{child_along}
 use Rattle.tree_automaton.proofs.Visited.{child_level}
 use Rattle.sweep_visits.specs.Visits.{Visit, enter, leave, from_child, visits_at}
 

@@ -18,8 +18,10 @@ use Rattle.swept_slots.specs.Copies.{copies}
 
 -- of a record the slot of one cell was changed as asked, and no other slot
 pub record ChangesOneCell (dim : Dim) (c : CellKey) (E : Slot → Slot → Type 0) (s t : VertexRecord) : Type 0 where
-  pub own : (n : ℕ) → n < corners dim → adjacent_of dim s.key n ≡ Some c → E (slot_at s n) (slot_at t n)
-  pub others : (n : ℕ) → n < corners dim → adjacent_of dim s.key n ≢ Some c → slot_at t n ≡ slot_at s n
+  pub own : (n : ℕ) → n < corners dim → adjacent_of dim s.key n ≡ Some c
+      → E (slot_at s n) (slot_at t n)
+  pub others : (n : ℕ) → n < corners dim → adjacent_of dim s.key n ≢ Some c
+      → slot_at t n ≡ slot_at s n
   pub unused : (n : ℕ) → corners dim ≤ n → n < 8 → slot_at t n ≡ slot_at s n
 
 -- so do the two calls at each cell of a sweep, of each vertex round it

@@ -32,34 +32,47 @@ pub record IsSweptTree {A : Type 0} (entered left : A → CellView → CellView 
 
 -- Where the two calls at each cell change the slots of that cell alone, as a test allows, the sweep changes so, once, the slots of each cell that the tree holds, and no other slot.
 abbrev pub HeldCellsChange : {A : Type 0} → (A → CellView → CellView → A → Type 0) → (A → CellView → CellView → A → Type 0) → Type 0
-HeldCellsChange entered left = (k : Cuts) (t : ℕ) (p : TreeSweep) (step : ℕ) (kind : Kind) (before after : TreeLists) (x y : _) (note : Note) (test : CellKey → Slot → Slot → Bool) →
-    (tree : IsSweptTree entered left k t p step kind before after x y note) →
-    EachVisitChanges (with_calls (begun p before.lanes.input before.lanes.tale) tree.gives.calls) (λ c s u. test c s u ≡ true) →
-    (v : VertexKey) → HasVertex k p.plan.new t v → IsSweptVertex k p.plan (IfHeld k t (λ c s u. test c s u ≡ true)) before.lanes.input after.lanes.input v
+HeldCellsChange entered left = (k : Cuts) (t : ℕ) (p : TreeSweep) (step : ℕ) (kind : Kind)
+    (before after : TreeLists) (x y : _) (note : Note) (test : CellKey → Slot → Slot → Bool)
+    → (tree : IsSweptTree entered left k t p step kind before after x y note)
+    → EachVisitChanges (with_calls (begun p before.lanes.input before.lanes.tale) tree.gives.calls) (λ c s u. test c s u ≡ true)
+    → (v : VertexKey) → HasVertex k p.plan.new t v
+    → IsSweptVertex k p.plan (IfHeld k t (λ c s u. test c s u ≡ true)) before.lanes.input after.lanes.input v
 
 -- In a sweep that changes no grid this leads from the copies before it to those after it.
 abbrev pub PlainCellsChange : {A : Type 0} → (A → CellView → CellView → A → Type 0) → (A → CellView → CellView → A → Type 0) → Type 0
-PlainCellsChange entered left = (k : Cuts) (t : ℕ) (p : TreeSweep) (step : ℕ) (kind : Kind) (before after : TreeLists) (x y : _) (note : Note) (test : CellKey → Slot → Slot → Bool) →
-    (tree : IsSweptTree entered left k t p step kind before after x y note) → p.plan.old ≡ Some p.plan.new →
-    EachVisitChanges (with_calls (begun p before.lanes.input before.lanes.tale) tree.gives.calls) (λ c s u. test c s u ≡ true) →
-    IsSwept k p.plan.new t (IfHeld k t (λ c s u. test c s u ≡ true)) (copies before.lanes.input) (copies after.lanes.input)
+PlainCellsChange entered left = (k : Cuts) (t : ℕ) (p : TreeSweep) (step : ℕ) (kind : Kind)
+    (before after : TreeLists) (x y : _) (note : Note) (test : CellKey → Slot → Slot → Bool)
+    → (tree : IsSweptTree entered left k t p step kind before after x y note)
+    → p.plan.old ≡ Some p.plan.new
+    → EachVisitChanges (with_calls (begun p before.lanes.input before.lanes.tale) tree.gives.calls) (λ c s u. test c s u ≡ true)
+    → IsSwept k p.plan.new t (IfHeld k t (λ c s u. test c s u ≡ true)) (copies before.lanes.input) (copies after.lanes.input)
 
 -- Each vertex that a tree has in a grid has its copy in a store that has the lists of the grid,
 abbrev pub StoreHasCopies : Type 0
-StoreHasCopies = (k : Cuts) (g : Spacetree) (t number : ℕ) (dir : Direction) (s : TreeLists) → IsCutGrid k g → HasLists (plain_plan k.depth (range_of k t) dir g) number s →
-    (v : VertexKey) → HasVertex k g t v → IsCopy s.lanes.input v
+StoreHasCopies = (k : Cuts) (g : Spacetree) (t number : ℕ) (dir : Direction) (s : TreeLists)
+    → IsCutGrid k g → HasLists (plain_plan k.depth (range_of k t) dir g) number s
+    → (v : VertexKey) → HasVertex k g t v → IsCopy s.lanes.input v
 
 -- so where the store stands for the grid and a field, its copies say so,
 abbrev pub RestIsSaid : Type 0
-RestIsSaid = (k : Cuts) (g : Spacetree) (f : States) (t number : ℕ) (dir : Direction) (s : TreeLists) → IsCutGrid k g → StandsFor k.depth (range_of k t) number dir g f s →
-    TreeSays k g t (AtRest g (value_of g f)) (copies s.lanes.input)
+RestIsSaid = (k : Cuts) (g : Spacetree) (f : States) (t number : ℕ) (dir : Direction)
+    (s : TreeLists)
+    → IsCutGrid k g → StandsFor k.depth (range_of k t) number dir g f s
+    → TreeSays k g t (AtRest g (value_of g f)) (copies s.lanes.input)
 
 -- and where they say so, it stands for them;
 abbrev pub SaidIsRest : Type 0
-SaidIsRest = (k : Cuts) (g : Spacetree) (f : States) (t number : ℕ) (dir : Direction) (s : TreeLists) → IsCutGrid k g → t < k.trees → HasLists (plain_plan k.depth (range_of k t) dir g) number s →
-    TreeSays k g t (AtRest g (value_of g f)) (copies s.lanes.input) → StandsFor k.depth (range_of k t) number dir g f s
+SaidIsRest = (k : Cuts) (g : Spacetree) (f : States) (t number : ℕ) (dir : Direction)
+    (s : TreeLists)
+    → IsCutGrid k g → t < k.trees → HasLists (plain_plan k.depth (range_of k t) dir g) number s
+    → TreeSays k g t (AtRest g (value_of g f)) (copies s.lanes.input)
+    → StandsFor k.depth (range_of k t) number dir g f s
 
 -- where they say what is so after the second exchange, it stands before an adaptation.
 abbrev pub SaidIsBefore : Type 0
-SaidIsBefore = (k : Cuts) (w : Change) (t number : ℕ) (dir : Direction) (s : TreeLists) → IsCutGrid k w.old → t < k.trees → HasLists (plain_plan k.depth (range_of k t) dir w.old) number s →
-    TreeSays k w.old t (AfterSecond w) (copies s.lanes.input) → StandsBefore k.depth (range_of k t) number dir w.old w.new s
+SaidIsBefore = (k : Cuts) (w : Change) (t number : ℕ) (dir : Direction) (s : TreeLists)
+    → IsCutGrid k w.old → t < k.trees
+    → HasLists (plain_plan k.depth (range_of k t) dir w.old) number s
+    → TreeSays k w.old t (AfterSecond w) (copies s.lanes.input)
+    → StandsBefore k.depth (range_of k t) number dir w.old w.new s

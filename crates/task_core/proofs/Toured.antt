@@ -5,11 +5,12 @@ use Rattle.std.proofs.lemmas.Bool.{false≢true}
 use Rattle.peano_keys.specs.declared.cell.CellKey.{CellKey}
 use Rattle.peano_keys.specs.declared.dim.Dim.{Dim}
 use Rattle.peano_keys.specs.declared.dim.Dim.TheVariants.{Two, Three}
+use Rattle.peano_keys.specs.Dim.{children}
 use Rattle.peano_keys.specs.Cell.{IsCell, parent_of}
 use Rattle.peano_keys.specs.Grid.{Spacetree, has_cell, is_refined, IsGrid}
 use Rattle.peano_keys.specs.Field.{States}
 use Rattle.peano_curve.specs.declared.order.Direction.{Direction}
-use Rattle.peano_curve.specs.Order.{children, place_along}
+use Rattle.peano_curve.specs.Order.{place_along}
 use Rattle.peano_curve.specs.Run.{HoldsCell}
 use Rattle.curve_cuts.specs.Cuts.{Cuts, range_of, Held, IsCutGrid}
 use Rattle.spacetree.specs.Fields.{IsFieldOn}

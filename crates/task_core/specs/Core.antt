@@ -28,6 +28,7 @@ pub record Tree : Type 0 where
   pub made : ℕ
   pub tasks : List Offered
 
+-- a step of all trees: the sweep that they are in, the trees, and the answers so far
 pub record Core : Type 0 where
   pub sweep : Sweep
   pub trees : List Tree
@@ -81,8 +82,13 @@ module _ (updated : UpdateRule) where
   -- a tree makes its next visit, where it has one
   abbrev pub visited_at : Core → ℕ → Tree → Option Stop → Option Core
   visited_at c i t None = None
-  visited_at c i t (Some s) = Some (record { sweep = c.sweep; trees = slice_set c.trees i (record { first = t.first; second = t.second; made = t.made + 1; tasks = tasks_after c.sweep t.tasks s }); answers = answers_after c.sweep c.answers s })
+  visited_at c i t (Some s) = Some (record {
+    sweep = c.sweep;
+    trees = slice_set c.trees i (record { first = t.first; second = t.second; made = t.made + 1; tasks = tasks_after c.sweep t.tasks s });
+    answers = answers_after c.sweep c.answers s;
+  })
 
+  -- so of a tree that may not be there
   abbrev pub visited : Core → ℕ → Option Tree → Option Core
   visited c i None = None
   visited c i (Some t) = visited_at c i t (slice_get (stops c.sweep t) t.made)
@@ -90,27 +96,36 @@ module _ (updated : UpdateRule) where
   -- the word of task k of tree i becomes w, and the answers a
   abbrev pub worded : Core → ℕ → ℕ → Tree → Offered → Answers → Option Word → Option Core
   worded c i k t o a None = None
-  worded c i k t o a (Some w) = Some (record { sweep = c.sweep; trees = slice_set c.trees i (record { first = t.first; second = t.second; made = t.made; tasks = slice_set t.tasks k (record { leaf = o.leaf; word = w }) }); answers = a })
+  worded c i k t o a (Some w) = Some (record {
+    sweep = c.sweep;
+    trees = slice_set c.trees i (record { first = t.first; second = t.second; made = t.made; tasks = slice_set t.tasks k (record { leaf = o.leaf; word = w }) });
+    answers = a;
+  })
 
   -- what an event does to the word and the leaf of a task
   pub record Move : Type 0 where
     pub word : Word → Option Word
     pub answers : Answers → Leaf → Answers
 
+  -- a task of a tree, where there is one, moves by an event
   abbrev pub moved_at : Core → ℕ → ℕ → Tree → Option Offered → Move → Option Core
   moved_at c i k t None m = None
   moved_at c i k t (Some o) m = worded c i k t o (m.answers c.answers o.leaf) (m.word o.word)
 
+  -- so of a task by its number, in a tree that may not be there
   abbrev pub moved : Core → ℕ → ℕ → Option Tree → Move → Option Core
   moved c i k None m = None
   moved c i k (Some t) m = moved_at c i k t (slice_get t.tasks k) m
 
+  -- a task is taken by an actor
   abbrev pub take_move : ℕ → Move
   take_move actor = record { word = taken actor; answers = λ a l. a }
 
+  -- an actor publishes the answer of its task
   abbrev pub publish_move : ℕ → Move
   publish_move actor = record { word = published actor; answers = put }
 
+  -- a task is collected
   abbrev pub collect_move : Move
   collect_move = record { word = collected; answers = λ a l. a }
 

@@ -10,13 +10,15 @@ use Rattle.task_core.specs.declared.event.Sweep.TheVariants.{Second, Over}
 use Rattle.task_core.specs.Core.{Core, stepped, or_skipped}
 use Rattle.task_core.specs.Replies.{word_at}
 
+-- a word, or Free where there is none
 abbrev pub or_free : Option Word → Word
 or_free None = Free
 or_free (Some w) = w
 
 -- the words of a desk are those of a tree's tasks; a task that the tree has not added is Free
 abbrev pub SharesWords : Core → ℕ → List ℕ → Type 0
-SharesWords c i words = (k : ℕ) → k + 1 < length words → slice_index words (k + 1) ≡ code (or_free (word_at c i k))
+SharesWords c i words = (k : ℕ) → k + 1 < length words
+    → slice_index words (k + 1) ≡ code (or_free (word_at c i k))
 
 -- a task that the tree has added, beside a desk that shares its words
 pub record HasTask (c : Core) (i k : ℕ) (words : List ℕ) : Type 0 where
@@ -35,15 +37,18 @@ exchanged_at words k old new = slice_set words (k + 1) (exchanged (slice_index w
 
 -- until the step is over, the compare and exchange of a claim is Take
 abbrev pub ClaimsAreTakes : Type 0
-ClaimsAreTakes = (updated : UpdateRule) (c : Core) (i k seat : ℕ) (words : List ℕ) → HasTask c i k words → c.sweep ≢ Over
+ClaimsAreTakes = (updated : UpdateRule) (c : Core) (i k seat : ℕ) (words : List ℕ)
+    → HasTask c i k words → c.sweep ≢ Over
     → IsEvent updated c i (Take seat i k) (slice_index words (k + 1) == code Free) (exchanged_at words k (code Free) (code (Taken seat)))
 
 -- and that of a publication is Publish
 abbrev pub PublicationsArePublish : Type 0
-PublicationsArePublish = (updated : UpdateRule) (c : Core) (i k seat : ℕ) (words : List ℕ) → HasTask c i k words → c.sweep ≢ Over
+PublicationsArePublish = (updated : UpdateRule) (c : Core) (i k seat : ℕ) (words : List ℕ)
+    → HasTask c i k words → c.sweep ≢ Over
     → IsEvent updated c i (Publish seat i k) (slice_index words (k + 1) == code (Taken seat)) (exchanged_at words k (code (Taken seat)) (code Published))
 
 -- in the second sweep the exchange of a collection is Collect; it is legal once
 abbrev pub CollectionsAreCollect : Type 0
-CollectionsAreCollect = (updated : UpdateRule) (c : Core) (i k : ℕ) (words : List ℕ) → HasTask c i k words → c.sweep ≡ Second
+CollectionsAreCollect = (updated : UpdateRule) (c : Core) (i k : ℕ) (words : List ℕ)
+    → HasTask c i k words → c.sweep ≡ Second
     → IsEvent updated c i (Collect i k) (not (slice_index words (k + 1) == code Collected)) (slice_set words (k + 1) (code Collected))

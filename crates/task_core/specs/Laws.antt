@@ -16,13 +16,19 @@ use Rattle.task_core.specs.Opening.{Opens, CoversAll}
 
 -- every answer is the kernel's on the opening field, whoever computed it
 abbrev pub AnswersAreKernels : Type 0
-AnswersAreKernels = (updated : UpdateRule) (g : Spacetree) (f : States) (c : Core) (events : List Event) → Opens g f c
-    → (k : CellKey) (a : Option State) → fin.get (run updated c events).answers k ≡ Some a → a ≡ new_state updated g f k
+AnswersAreKernels = (updated : UpdateRule) (g : Spacetree) (f : States) (c : Core)
+    (events : List Event)
+    → Opens g f c
+    → (k : CellKey) (a : Option State) → fin.get (run updated c events).answers k ≡ Some a
+    → a ≡ new_state updated g f k
 
 -- after the second exchange each leaf has the kernel's answer
 abbrev pub EachLeafIsAnswered : Type 0
-EachLeafIsAnswered = (updated : UpdateRule) (g : Spacetree) (f : States) (c : Core) (events : List Event) → Opens g f c → CoversAll g f c
-    → (run updated c events).sweep ≡ Over → (k : CellKey) → IsLeafOf g k → fin.get (run updated c events).answers k ≡ Some (new_state updated g f k)
+EachLeafIsAnswered = (updated : UpdateRule) (g : Spacetree) (f : States) (c : Core)
+    (events : List Event)
+    → Opens g f c → CoversAll g f c
+    → (run updated c events).sweep ≡ Over → (k : CellKey) → IsLeafOf g k
+    → fin.get (run updated c events).answers k ≡ Some (new_state updated g f k)
 
 -- the word of a task
 pub record HasWord (c : Core) (i k : ℕ) (w : Word) : Type 0 where
@@ -34,4 +40,6 @@ pub record HasWord (c : Core) (i k : ℕ) (w : Word) : Type 0 where
 
 -- a word only moves forward in the list Free, Taken, Published, Collected
 abbrev pub WordsMoveForward : Type 0
-WordsMoveForward = (updated : UpdateRule) (c : Core) (events : List Event) (i k : ℕ) (w : Word) → HasWord c i k w → (u : Word) × HasWord (run updated c events) i k u × (place_of w ≤ place_of u)
+WordsMoveForward = (updated : UpdateRule) (c : Core) (events : List Event) (i k : ℕ) (w : Word)
+    → HasWord c i k w
+    → (u : Word) × HasWord (run updated c events) i k u × (place_of w ≤ place_of u)

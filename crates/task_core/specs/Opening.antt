@@ -52,5 +52,6 @@ module _ (g : Spacetree) (f : States) where
     pub is : IsIn tree trees
     pub stop : IsIn (Compute leaf) tree.first ⊎ IsIn (Offer leaf) tree.second
 
+  -- so is each leaf of the grid
   abbrev pub CoversAll : Core → Type 0
   CoversAll c = (k : CellKey) → IsLeafOf g k → Covers c.trees k

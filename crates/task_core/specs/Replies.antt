@@ -6,14 +6,15 @@ use Rattle.peano_keys.specs.declared.state.State.{State}
 use Rattle.solver_api.specs.declared.solver.Solver.{Ghosts}
 use Rattle.solver_api.specs.Step.{UpdateRule}
 use Rattle.result_table.specs.declared.word.Word.{Word}
+use Rattle.task_core.specs.declared.stop.Leaf.{Leaf}
 use Rattle.task_core.specs.declared.stop.Offered.{Offered}
 use Rattle.task_core.specs.declared.event.Event.{Event}
 use Rattle.task_core.specs.declared.event.Reply.{Reply}
 use Rattle.task_core.specs.declared.event.Reply.TheVariants.{Applied, Skipped}
 use Rattle.task_core.specs.declared.event.Sweep.{Sweep}
 use Rattle.task_core.specs.declared.machine.Core.{Core as Program}
-use Rattle.task_core.specs.Core.{Core, all_made, rewound, stepped, or_skipped, run}
-use Rattle.task_core.specs.Work.{task_in}
+use Rattle.task_core.specs.Core.{Core, all_made, rewound, put, put_missing, visited, moved, take_move, publish_move, collect_move, in_sweep, stepped, or_skipped, run}
+use Rattle.task_core.specs.Work.{task_in, passed, offering, with_tree}
 
 module _ {S : Type 0} {g : Ghosts S} where
   -- a program's core as a machine
@@ -28,6 +29,47 @@ module _ {S : Type 0} {g : Ghosts S} where
 abbrev pub Replies : Option Core → Core → Reply → Core → Type 0
 Replies None c reply d = (reply ≡ Skipped) × (d ≡ c)
 Replies (Some e) c reply d = (reply ≡ Applied) × (d ≡ e)
+
+-- so for what is done to the core itself
+abbrev pub RepliesBy : (Core → Option Core) → Core → Core → Reply → Type 0
+RepliesBy does c d reply = Replies (does c) c reply d
+
+-- a tree's next visit offers a leaf as a task
+abbrev pub does_offer : ℕ → Leaf → Core → Option Core
+does_offer i leaf c = Some (with_tree (λ t. passed (offering leaf t)) c i c.answers)
+
+module _ (updated : UpdateRule) where
+  -- a tree's next visit computes a leaf
+  abbrev pub does_compute : ℕ → Leaf → Core → Option Core
+  does_compute i leaf c = Some (with_tree passed c i (put updated c.answers leaf))
+
+  -- it computes a leaf that was offered, where nobody has
+  abbrev pub does_gather : ℕ → Leaf → Core → Option Core
+  does_gather i leaf c = Some (with_tree passed c i (put_missing updated c.answers leaf))
+
+  -- a tree makes its next visit
+  abbrev pub does_visit : ℕ → Core → Option Core
+  does_visit i c = visited updated c i (slice_get c.trees i)
+
+  -- an actor takes a task of a tree
+  abbrev pub does_take : ℕ → ℕ → ℕ → Core → Option Core
+  does_take actor i k c = moved updated c i k (slice_get c.trees i) (take_move updated actor)
+
+  -- an actor publishes the answer of its task
+  abbrev pub does_publish : ℕ → ℕ → ℕ → Core → Option Core
+  does_publish actor i k c = moved updated c i k (slice_get c.trees i) (publish_move updated actor)
+
+  -- a task is collected
+  abbrev pub does_collect : ℕ → ℕ → Core → Option Core
+  does_collect i k c = moved updated c i k (slice_get c.trees i) (collect_move updated)
+
+  -- an event while the trees are in a sweep
+  abbrev pub does_in : Sweep → Event → Core → Option Core
+  does_in sweep event c = in_sweep updated sweep c event
+
+  -- an event
+  abbrev pub does : Event → Core → Option Core
+  does event c = stepped updated c event
 
 -- how many events of a list are legal, each after those before it
 abbrev pub applied : UpdateRule → Core → List Event → ℕ
@@ -52,6 +94,7 @@ abbrev pub given : Option (Option State) → Option State
 given None = None
 given (Some a) = a
 
+-- what the answer of a leaf gives in a core
 abbrev pub result_at : Core → CellKey → Option State
 result_at c k = given (fin.get c.answers k)
 

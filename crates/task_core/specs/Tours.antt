@@ -20,6 +20,7 @@ use Rattle.task_core.specs.Visits.{plan_of, AreStops}
 abbrev pub cuts_in : Tour → Cuts
 cuts_in r = cuts_of r.keys.now
 
+-- the sweep that a tour follows, as a plan
 abbrev pub plan_in : Tour → SweepPlan
 plan_in r = plan_of (cuts_in r) r.grid.now r.tree r.dir
 
@@ -39,6 +40,7 @@ pub record Adds (k : Cuts) (g : Spacetree) (f : States) (t : ℕ) (vs : List Vis
   pub served : ServedIn g f stops
   pub added : new ≡ old ++ stops
 
+-- a tour went on: to its stops those were added that stand for some visits of its tree
 abbrev pub Tours : Tour → List Visit → List Stop → List Stop → Type 0
 Tours r vs old new = Adds (cuts_in r) r.grid.now r.field.now r.tree vs old new
 

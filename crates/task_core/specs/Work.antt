@@ -31,6 +31,7 @@ pub record IsServedTree (n : ℕ) (t : Tree) : Type 0 where
   pub second : Each (IsServedStop n) t.second
   pub tasks : Each (IsServedTask n) t.tasks
 
+-- so is each of some trees
 abbrev pub AreServed : ℕ → List Tree → Type 0
 AreServed n ts = Each (IsServedTree n) ts
 
@@ -66,6 +67,7 @@ abbrev pub changed_at : (Tree → Tree) → List Tree → ℕ → Option Tree �
 changed_at f ts i None = ts
 changed_at f ts i (Some t) = slice_set ts i (f t)
 
+-- trees of which one, by its place, is changed
 abbrev pub changed : (Tree → Tree) → Trees → ℕ → Trees
 changed f ts i = record ts { trees = changed_at f ts.trees i (slice_get ts.trees i) }
 

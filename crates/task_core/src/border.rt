@@ -10,18 +10,8 @@ ghost use Rattle.curve_cuts.specs.Enclave.{IsAtBorder, HasBorder};
 ghost use Rattle.task_core.specs.Tours.{IsBroken};
 
 use curve_cuts::Keys;
-use peano_keys::{CellKey, Dim, VertexKey, adjacent, corner};
+use peano_keys::{CellKey, Dim, VertexKey, adjacent, corner, corner_count};
 use spacetree::Grid;
-
-// How many corners a cell has, and so many positions a vertex.
-fn corner_count(dim: Dim) -> u32
-    ensures { result ≡ corners dim }
-{
-    match dim {
-        Dim::Two => 4,
-        Dim::Three => 8,
-    }
-}
 
 // Whether a cell of the domain is none of the grid.
 fn is_missing(grid: &Grid, cell: &CellKey) -> bool

@@ -1,9 +1,9 @@
 //! The calls of a core.
 ghost use Rattle.std.specs.Prelude.{◌≡◌, Some, slice_get, IsSome, IfOk, OnErr};
 ghost use Rattle.task_core.specs.declared.event.Sweep.TheVariants.{First, Second};
-ghost use Rattle.task_core.specs.Core.{answer_of, put, put_missing, stepped, in_sweep, visited, moved, take_move, publish_move, collect_move, run};
-ghost use Rattle.task_core.specs.Work.{IsServed, next_in, passed, offering, with_tree};
-ghost use Rattle.task_core.specs.Replies.{core_of, solver_of, Replies, applied, applied_by, RanSome, turned_to, word_at, result_at};
+ghost use Rattle.task_core.specs.Core.{answer_of, run};
+ghost use Rattle.task_core.specs.Work.{IsServed, next_in, passed, with_tree};
+ghost use Rattle.task_core.specs.Replies.{core_of, solver_of, Replies, RepliesBy, does_compute, does_offer, does_gather, does_visit, does_take, does_publish, does_collect, does_in, does, applied, applied_by, RanSome, turned_to, word_at, result_at};
 
 use crate::event::{Event, Reply, Sweep};
 use crate::machine::Core;
@@ -46,7 +46,9 @@ impl<S: Solver> Core<S> {
     fn compute(&mut self, tree: u32, leaf: Leaf) -> Result<Reply, AllocError>
         requires next { IsSome (next_in self.old.sweep (slice_get self.old.forest.trees tree)) }
         requires served { IsServed self.old.forest.parts leaf }
-        ensures ok { IfOk result (λ reply. Replies (Some (with_tree passed (core_of self.old) tree (put (S.updated (solver_of self.old)) self.old.answers leaf))) (core_of self.old) reply (core_of self.new)) }
+        ensures ok { IfOk result (RepliesBy
+            (does_compute (S.updated (solver_of self.old)) tree leaf)
+            (core_of self.old) (core_of self.new)) }
         ensures err { OnErr result (core_of self.new ≡ core_of self.old) }
         ensures solver { solver_of self.new ≡ solver_of self.old }
     {
@@ -59,7 +61,8 @@ impl<S: Solver> Core<S> {
     fn offer(&mut self, tree: u32, leaf: Leaf) -> Result<Reply, AllocError>
         requires next { IsSome (next_in self.old.sweep (slice_get self.old.forest.trees tree)) }
         requires served { IsServed self.old.forest.parts leaf }
-        ensures ok { IfOk result (λ reply. Replies (Some (with_tree (λ t. passed (offering leaf t)) (core_of self.old) tree self.old.answers)) (core_of self.old) reply (core_of self.new)) }
+        ensures ok { IfOk result (RepliesBy (does_offer tree leaf)
+            (core_of self.old) (core_of self.new)) }
         ensures err { OnErr result (core_of self.new ≡ core_of self.old) }
         ensures solver { solver_of self.new ≡ solver_of self.old }
     {
@@ -71,7 +74,8 @@ impl<S: Solver> Core<S> {
     fn gather(&mut self, tree: u32, leaf: Leaf) -> Result<Reply, AllocError>
         requires next { IsSome (next_in self.old.sweep (slice_get self.old.forest.trees tree)) }
         requires served { IsServed self.old.forest.parts leaf }
-        ensures ok { IfOk result (λ reply. Replies (Some (with_tree passed (core_of self.old) tree (put_missing (S.updated (solver_of self.old)) self.old.answers leaf))) (core_of self.old) reply (core_of self.new)) }
+        ensures ok { IfOk result (RepliesBy (does_gather (S.updated (solver_of self.old)) tree leaf)
+            (core_of self.old) (core_of self.new)) }
         ensures err { OnErr result (core_of self.new ≡ core_of self.old) }
         ensures solver { solver_of self.new ≡ solver_of self.old }
     {
@@ -84,7 +88,8 @@ impl<S: Solver> Core<S> {
     // A visit in the first sweep.
     fn visit_first(&mut self, tree: u32) -> Result<Reply, AllocError>
         requires { self.old.sweep ≡ First }
-        ensures ok { IfOk result (λ reply. Replies (visited (S.updated (solver_of self.old)) (core_of self.old) tree (slice_get self.old.forest.trees tree)) (core_of self.old) reply (core_of self.new)) }
+        ensures ok { IfOk result (RepliesBy (does_visit (S.updated (solver_of self.old)) tree)
+            (core_of self.old) (core_of self.new)) }
         ensures err { OnErr result (core_of self.new ≡ core_of self.old) }
         ensures solver { solver_of self.new ≡ solver_of self.old }
     {
@@ -99,7 +104,8 @@ impl<S: Solver> Core<S> {
     // A visit in the second sweep.
     fn visit_second(&mut self, tree: u32) -> Result<Reply, AllocError>
         requires { self.old.sweep ≡ Second }
-        ensures ok { IfOk result (λ reply. Replies (visited (S.updated (solver_of self.old)) (core_of self.old) tree (slice_get self.old.forest.trees tree)) (core_of self.old) reply (core_of self.new)) }
+        ensures ok { IfOk result (RepliesBy (does_visit (S.updated (solver_of self.old)) tree)
+            (core_of self.old) (core_of self.new)) }
         ensures err { OnErr result (core_of self.new ≡ core_of self.old) }
         ensures solver { solver_of self.new ≡ solver_of self.old }
     {
@@ -113,7 +119,8 @@ impl<S: Solver> Core<S> {
 
     // An actor takes a task that is Free.
     fn take(&mut self, actor: u32, tree: u32, task: u32) -> Reply
-        ensures reply { Replies (moved (S.updated (solver_of self.old)) (core_of self.old) tree task (slice_get self.old.forest.trees tree) (take_move (S.updated (solver_of self.old)) actor)) (core_of self.old) result (core_of self.new) }
+        ensures reply { RepliesBy (does_take (S.updated (solver_of self.old)) actor tree task)
+            (core_of self.old) (core_of self.new) result }
         ensures solver { solver_of self.new ≡ solver_of self.old }
     {
         let Some(offered) = self.forest.task(tree, task) else {
@@ -129,7 +136,9 @@ impl<S: Solver> Core<S> {
 
     // An actor publishes the answer on a task that it has taken.
     fn publish(&mut self, actor: u32, tree: u32, task: u32) -> Result<Reply, AllocError>
-        ensures ok { IfOk result (λ reply. Replies (moved (S.updated (solver_of self.old)) (core_of self.old) tree task (slice_get self.old.forest.trees tree) (publish_move (S.updated (solver_of self.old)) actor)) (core_of self.old) reply (core_of self.new)) }
+        ensures ok { IfOk result (RepliesBy
+            (does_publish (S.updated (solver_of self.old)) actor tree task)
+            (core_of self.old) (core_of self.new)) }
         ensures err { OnErr result (core_of self.new ≡ core_of self.old) }
         ensures solver { solver_of self.new ≡ solver_of self.old }
     {
@@ -148,7 +157,8 @@ impl<S: Solver> Core<S> {
 
     // A task is collected.
     fn collect(&mut self, tree: u32, task: u32) -> Reply
-        ensures reply { Replies (moved (S.updated (solver_of self.old)) (core_of self.old) tree task (slice_get self.old.forest.trees tree) (collect_move (S.updated (solver_of self.old)))) (core_of self.old) result (core_of self.new) }
+        ensures reply { RepliesBy (does_collect (S.updated (solver_of self.old)) tree task)
+            (core_of self.old) (core_of self.new) result }
         ensures solver { solver_of self.new ≡ solver_of self.old }
     {
         let Some(offered) = self.forest.task(tree, task) else {
@@ -178,7 +188,8 @@ impl<S: Solver> Core<S> {
     // An event in the first sweep, in which nothing is collected.
     fn step_first(&mut self, event: Event) -> Result<Reply, AllocError>
         requires { self.old.sweep ≡ First }
-        ensures ok { IfOk result (λ reply. Replies (in_sweep (S.updated (solver_of self.old)) First (core_of self.old) event) (core_of self.old) reply (core_of self.new)) }
+        ensures ok { IfOk result (RepliesBy (does_in (S.updated (solver_of self.old)) First event)
+            (core_of self.old) (core_of self.new)) }
         ensures err { OnErr result (core_of self.new ≡ core_of self.old) }
         ensures solver { solver_of self.new ≡ solver_of self.old }
     {
@@ -194,7 +205,8 @@ impl<S: Solver> Core<S> {
     // An event in the second sweep.
     fn step_second(&mut self, event: Event) -> Result<Reply, AllocError>
         requires { self.old.sweep ≡ Second }
-        ensures ok { IfOk result (λ reply. Replies (in_sweep (S.updated (solver_of self.old)) Second (core_of self.old) event) (core_of self.old) reply (core_of self.new)) }
+        ensures ok { IfOk result (RepliesBy (does_in (S.updated (solver_of self.old)) Second event)
+            (core_of self.old) (core_of self.new)) }
         ensures err { OnErr result (core_of self.new ≡ core_of self.old) }
         ensures solver { solver_of self.new ≡ solver_of self.old }
     {
@@ -210,7 +222,8 @@ impl<S: Solver> Core<S> {
     /// One event. It is applied where it is legal, and else skipped, and then nothing changes. Publishing and computing
     /// take memory for the answer and offering for the task; after a refusal nothing has changed.
     pub fn step(&mut self, event: Event) -> Result<Reply, AllocError>
-        ensures ok { IfOk result (λ reply. Replies (stepped (S.updated (solver_of self.old)) (core_of self.old) event) (core_of self.old) reply (core_of self.new)) }
+        ensures ok { IfOk result (RepliesBy (does (S.updated (solver_of self.old)) event)
+            (core_of self.old) (core_of self.new)) }
         ensures err { OnErr result (core_of self.new ≡ core_of self.old) }
         ensures solver { solver_of self.new ≡ solver_of self.old }
     {

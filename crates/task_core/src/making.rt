@@ -44,7 +44,8 @@ fn begin_tree(
     requires grid { IsCutGrid (cuts_of keys.now) grid.now }
     requires tree { tree < (cuts_of keys.now).trees }
     ensures begins { IfOk result (λ work. BeginsTree (cuts_of keys.now) grid.now field.now tree dir work) }
-    ensures served { IfOk result (λ work. (n : ℕ) → IsFieldOn n grid.now field.now → IsServedTree n work) }
+    ensures served { IfOk result (λ work. (n : ℕ) → IsFieldOn n grid.now field.now
+        → IsServedTree n work) }
 {
     let there = Tour {
         grid,
@@ -76,7 +77,8 @@ fn begin_trees(
     requires { IsCutGrid (cuts_of keys.now) grid.now }
     ensures count { IfOk result (λ trees. length trees.items ≡ (cuts_of keys.now).trees) }
     ensures begin { IfOk result (λ trees. BeginTrees (cuts_of keys.now) grid.now field.now dir trees.items) }
-    ensures served { IfOk result (λ trees. (n : ℕ) → IsFieldOn n grid.now field.now → AreServed n trees.items) }
+    ensures served { IfOk result (λ trees. (n : ℕ) → IsFieldOn n grid.now field.now
+        → AreServed n trees.items) }
 {
     let mut trees = Vec::new(alloc);
     for tree in 0..keys.trees() {

@@ -15,7 +15,7 @@ use crate::border::has_border;
 use crate::stop::{Leaf, Stop};
 use curve_cuts::Keys;
 use peano_curve::{Direction, first_child, next_child};
-use peano_keys::{CellKey, State};
+use peano_keys::{CellKey, State, root};
 use spacetree::{Field, Grid, sides};
 use std::alloc::{AllocError, Global};
 
@@ -30,22 +30,14 @@ pub(crate) struct Tour<'a> {
     pub(crate) dir: Direction,
 }
 
-// The root.
-fn root() -> CellKey
-    ensures { result ≡ root_cell }
-{
-    CellKey {
-        level: 0,
-        x: [0; 3],
-    }
-}
-
 impl<'a> Tour<'a> {
     // A leaf with its state and its sides.
     fn leaf(&self, key: CellKey) -> Leaf
         requires cell { IsCell self.now.grid.now.dim key }
         ensures value { result ≡ leaf_of self.now.grid.now self.now.field.now key }
-        ensures served { (n : ℕ) → IsGrid 12 self.now.grid.now → IsFieldOn n self.now.grid.now self.now.field.now → IsLeafOf self.now.grid.now key → IsServed n result }
+        ensures served { (n : ℕ) → IsGrid 12 self.now.grid.now
+            → IsFieldOn n self.now.grid.now self.now.field.now → IsLeafOf self.now.grid.now key
+            → IsServed n result }
     {
         Leaf {
             key,

@@ -5,7 +5,7 @@ use Rattle.std.proofs.lemmas.Grind.{get_or-set_at}
 use Rattle.std.specs.Vec.{with_item}
 use mathlib.Core.Logic.{dite}
 use native.Mathlib.Decide.{ℕ_discrete}
-use Rattle.solver_api.specs.declared.solver.Solver.{Ghosts}
+use Rattle.result_table.specs.declared.updates.Updates.{Ghosts}
 use Rattle.result_table.specs.Seats.{view_of}
 use Rattle.result_table.specs.Views.{has}
 use Rattle.crossbeam_deque.specs.Handles.{view}

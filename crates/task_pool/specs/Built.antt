@@ -1,7 +1,7 @@
 -- A pool while its trees are added.
 use Rattle.std.specs.Prelude.{◌≡◌, ℕ, ◌+◌, ◌*◌, ◌<◌, ◌≤◌, ◌^◌, [], List, slice_index, slice_index_or, vec_len}
 use Rattle.crossbeam_deque.specs.Handles.{stealer_deque, worker_deque}
-use Rattle.solver_api.specs.declared.solver.Solver.{Ghosts}
+use Rattle.result_table.specs.declared.updates.Updates.{Ghosts}
 use Rattle.result_table.specs.declared.parts.DeskSeat.{DeskSeat}
 use Rattle.result_table.specs.Seats.{IsSeatOf, view_of, size_of, desk_solver}
 use Rattle.result_table.specs.Views.{newcomer}
@@ -20,7 +20,8 @@ module _ {S : Type 0} {g : Ghosts S} where
   -- a helper with its places at the first n trees
   pub record IsPlaced (trees : List (Tree S g)) (n : ℕ) (h : Helper S g) : Type 0 where
     pub all : vec_len h.posts ≡ n
-    pub posts : (i : ℕ) (x : Tree S g) (y : Post S g) → i < n → IsPostAt (slice_index_or trees i x) i (slice_index_or h.posts.items i y)
+    pub posts : (i : ℕ) (x : Tree S g) (y : Post S g) → i < n
+        → IsPostAt (slice_index_or trees i x) i (slice_index_or h.posts.items i y)
 
   -- a new hand of a tree
   pub record IsNewHand (t : Tree S g) (tree : ℕ) (solver : S) (workers : ℕ) (h : TreeHand S g) : Type 0 where
@@ -33,11 +34,15 @@ module _ {S : Type 0} {g : Ghosts S} where
   -- the first n trees of the pool, with their hands, and each helper's places at them
   pub record IsBuilt (tasks : List ℕ) (workers : ℕ) (solver : S) (n : ℕ) (b : Building S g) : Type 0 where
     pub trees : vec_len b.trees ≡ n
-    pub sizes : (i : ℕ) (x : Tree S g) → i < n → size_of (slice_index_or b.trees.items i x).desk ≡ slice_index tasks i
-    pub solvers : (i : ℕ) (x : Tree S g) → i < n → desk_solver (slice_index_or b.trees.items i x).desk ≡ solver
+    pub sizes : (i : ℕ) (x : Tree S g) → i < n
+        → size_of (slice_index_or b.trees.items i x).desk ≡ slice_index tasks i
+    pub solvers : (i : ℕ) (x : Tree S g) → i < n
+        → desk_solver (slice_index_or b.trees.items i x).desk ≡ solver
     pub total : b.total ≡ tasks_in b.trees.items
     pub most : b.total ≤ n * 2 ^ 32
     pub hands : vec_len b.hands ≡ n
-    pub hand : (i : ℕ) (x : Tree S g) (y : TreeHand S g) → i < n → IsNewHand (slice_index_or b.trees.items i x) i solver workers (slice_index_or b.hands.items i y)
+    pub hand : (i : ℕ) (x : Tree S g) (y : TreeHand S g) → i < n
+        → IsNewHand (slice_index_or b.trees.items i x) i solver workers (slice_index_or b.hands.items i y)
     pub helpers : vec_len b.helpers ≡ workers
-    pub helper : (j : ℕ) (h : Helper S g) → j < workers → IsPlaced b.trees.items n (slice_index_or b.helpers.items j h)
+    pub helper : (j : ℕ) (h : Helper S g) → j < workers
+        → IsPlaced b.trees.items n (slice_index_or b.helpers.items j h)

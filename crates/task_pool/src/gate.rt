@@ -5,6 +5,18 @@ pub trait Gate: Sync {
     fn pass(&self, tree: u32, task: u32);
 }
 
+/// Any gate, as a gathering tree knows it. It says nothing of threads, so that methods which stand in a trait, as those of a
+/// sweep's visitor, may be given one.
+pub trait Passes {
+    fn pass(&self, tree: u32, task: u32);
+}
+
+impl<G: Gate> Passes for G {
+    fn pass(&self, tree: u32, task: u32) {
+        Gate::pass(self, tree, task);
+    }
+}
+
 /// The gate that does nothing.
 pub struct Through;
 

@@ -5,13 +5,12 @@ ghost use Rattle.solver_api.specs.Parts.{HaveParts};
 ghost use Rattle.result_table.specs.Seats.{IsUncollected};
 ghost use Rattle.task_pool.specs.Seen.{IsHandOf, IsTaskOf, Collects, tree_of, spawned_of, hand_view, pool_solver};
 
-use crate::gate::Gate;
+use crate::gate::Passes;
 use crate::job::Job;
 use crate::log::Spawns;
 use crate::parts::{Pool, TreeHand};
 use peano_keys::State;
-use result_table::{Gathered, Task};
-use solver_api::Solver;
+use result_table::{Gathered, Task, Updates};
 
 fn job(task: Task) -> Job
     requires level { task.key.level ≤ 12 }
@@ -24,7 +23,7 @@ fn job(task: Task) -> Job
     }
 }
 
-impl<S: Solver> TreeHand<S> {
+impl<S: Updates> TreeHand<S> {
     /// How many tasks this hand has spawned.
     pub fn spawned(&self) -> u32
         ensures { result ≡ spawned_of self.now }
@@ -53,7 +52,7 @@ impl<S: Solver> TreeHand<S> {
 
     /// The solver's answer on the task: a helper's, where one published it, and else computed here. It waits for nobody and takes no memory.
     /// None where a new value leaves the range of `i64`.
-    pub fn gather<G: Gate>(
+    pub fn gather<G: Passes>(
         &mut self,
         pool: &Pool<S>,
         solver: &S,

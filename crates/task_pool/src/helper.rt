@@ -6,9 +6,9 @@ ghost use Rattle.task_pool.specs.Seen.{IsHelperOf, published_by, taken_by, pool_
 use crate::gate::Gate;
 use crate::parts::{Helper, Pool};
 use crate::shift::{Shift, Work};
-use solver_api::Solver;
+use result_table::Updates;
 
-impl<S: Solver> Helper<S> {
+impl<S: Updates> Helper<S> {
     /// One round: one try at each tree's deque.
     fn round<G: Gate>(&mut self, pool: &Pool<S>, solver: &S, gate: &G) -> Work
         requires helper { IsHelperOf pool.now self.old }
@@ -39,7 +39,8 @@ impl<S: Solver> Helper<S> {
         ensures helper { IsHelperOf pool.now self.new }
         ensures published { published_by self.new ≡ published_by self.old + result }
         ensures taken { taken_by self.old + result ≤ taken_by self.new }
-        ensures rounds { (rounds : List ℕ) × EndsAfter (task_count pool.now) rounds × (taken_by self.new ≡ taken_by self.old + taken_in rounds) }
+        ensures rounds { (rounds : List ℕ) × EndsAfter (task_count pool.now) rounds
+            × (taken_by self.new ≡ taken_by self.old + taken_in rounds) }
         ensures most { taken_by self.new ≤ taken_by self.old + task_count pool.now + tree_count pool.now }
     {
         let mut shift = Shift::new();

@@ -2,7 +2,7 @@
 ghost use Rattle.task_pool.specs.Laws.{TakenWasSpawned, TakenOnce, NumbersAreBelow};
 
 use crate::parts::TreeHand;
-use solver_api::Solver;
+use result_table::Updates;
 
 /// What helpers took are tasks that the tree's hand spawned.
 pub fn taken_was_spawned()
@@ -15,7 +15,7 @@ pub fn taken_once()
 {}
 
 /// A hand's tasks have numbers from 0 upwards: those that it put into its deque have numbers below how many it has spawned.
-pub fn numbers_are_below<S: Solver>(hand: &TreeHand<S>)
+pub fn numbers_are_below<S: Updates>(hand: &TreeHand<S>)
     ensures { NumbersAreBelow hand.now }
 {
     let _ = hand;

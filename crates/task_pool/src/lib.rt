@@ -17,5 +17,5 @@ mod tests;
 #[cfg(test)]
 mod thread_tests;
 
-pub use gate::{Gate, Through};
+pub use gate::{Gate, Passes, Through};
 pub use parts::{Helper, Pool, TreeHand};

@@ -8,24 +8,25 @@ use crate::job::Job;
 use crate::log::{Fair, Log};
 use crate::parts::{Helper, Pool, Post, Tree, TreeHand};
 use crossbeam_deque::Worker;
-use result_table::{Desk, DeskSeat, Witness};
-use solver_api::Solver;
+use result_table::{Desk, DeskSeat, Updates, Witness};
 use std::alloc::{AllocError, Global};
 
 /// A pool while its trees are added.
 #[derive(Drop)]
-struct Building<S: Solver> {
+struct Building<S: Updates> {
     trees: Vec<Tree<S>>,
     hands: Vec<TreeHand<S>>,
     helpers: Vec<Helper<S>>,
     total: u64,
 }
 
-impl<S: Solver> Helper<S> {
+impl<S: Updates> Helper<S> {
     /// Takes a place at the next tree.
     fn join(&mut self, tree: &Tree<S>, seat: DeskSeat<S>) -> Result<(), AllocError>
         requires { IsFreshSeat tree.now seat }
-        ensures { IfOk result (λ _. (p : _) × (self.new.posts.items ≡ self.old.posts.items ++ p ∷ []) × ((n : ℕ) → IsPostAt tree.now n p)) }
+        ensures { IfOk result (λ _. (p : _)
+            × (self.new.posts.items ≡ self.old.posts.items ++ p ∷ [])
+            × ((n : ℕ) → IsPostAt tree.now n p)) }
     {
         let pass = tree.stealer.pass();
         self.posts.push(Post { seat, pass })?;
@@ -34,8 +35,9 @@ impl<S: Solver> Helper<S> {
 }
 
 /// Helpers with no place yet.
-fn crew<S: Solver>(alloc: Global, workers: u32) -> Result<Vec<Helper<S>>, AllocError>
-    ensures { IfOk result (λ v. (vec_len v ≡ workers) × ((j : ℕ) (h : _) → j < workers → IsPlaced [] 0 (slice_index_or v.items j h))) }
+fn crew<S: Updates>(alloc: Global, workers: u32) -> Result<Vec<Helper<S>>, AllocError>
+    ensures { IfOk result (λ v. (vec_len v ≡ workers) × ((j : ℕ) (h : _) → j < workers
+        → IsPlaced [] 0 (slice_index_or v.items j h))) }
 {
     let mut helpers = Vec::new(alloc);
     let mut count = 0;
@@ -49,18 +51,23 @@ fn crew<S: Solver>(alloc: Global, workers: u32) -> Result<Vec<Helper<S>>, AllocE
 }
 
 /// Each helper takes a seat at this tree's desk, the last seat first.
-fn man<S: Solver>(
+fn man<S: Updates>(
     trees: &[Tree<S>],
     tree: u32,
     seats: &mut Vec<DeskSeat<S>>,
     helpers: &mut Vec<Helper<S>>,
 ) -> Result<(), AllocError>
     requires tree { tree < length trees.now }
-    requires seats { (i : ℕ) (x : _) (d : _) → i < vec_len seats.old → IsFreshSeat (slice_index_or trees.now tree x) (slice_index_or seats.old.items i d) }
+    requires seats { (i : ℕ) (x : _) (d : _) → i < vec_len seats.old
+        → IsFreshSeat (slice_index_or trees.now tree x) (slice_index_or seats.old.items i d) }
     requires enough { vec_len seats.old ≡ vec_len helpers.old + 1 }
-    requires placed { (j : ℕ) (h : _) → j < vec_len helpers.old → IsPlaced trees.now tree (slice_index_or helpers.old.items j h) }
-    ensures helpers { IfOk result (λ _. (vec_len helpers.new ≡ vec_len helpers.old) × ((j : ℕ) (h : _) → j < vec_len helpers.old → IsPlaced trees.now (tree + 1) (slice_index_or helpers.new.items j h))) }
-    ensures seats { IfOk result (λ _. (vec_len seats.new ≡ 1) × ((d : _) → slice_index_or seats.new.items 0 d ≡ slice_index_or seats.old.items 0 d)) }
+    requires placed { (j : ℕ) (h : _) → j < vec_len helpers.old
+        → IsPlaced trees.now tree (slice_index_or helpers.old.items j h) }
+    ensures helpers { IfOk result (λ _. (vec_len helpers.new ≡ vec_len helpers.old)
+        × ((j : ℕ) (h : _) → j < vec_len helpers.old
+        → IsPlaced trees.now (tree + 1) (slice_index_or helpers.new.items j h))) }
+    ensures seats { IfOk result (λ _. (vec_len seats.new ≡ 1)
+        × ((d : _) → slice_index_or seats.new.items 0 d ≡ slice_index_or seats.old.items 0 d)) }
 {
     let mut at = 0;
     while at < helpers.len() {
@@ -71,7 +78,7 @@ fn man<S: Solver>(
     Ok(())
 }
 
-impl<S: Solver> Building<S> {
+impl<S: Updates> Building<S> {
     /// Adds the next tree: its desk, its deque, its hand and a place for each helper.
     fn add_tree(
         &mut self,
@@ -106,7 +113,7 @@ impl<S: Solver> Building<S> {
     }
 }
 
-impl<S: Solver> Pool<S> {
+impl<S: Updates> Pool<S> {
     /// A pool of one desk and one deque for each number of tasks, with a hand for each tree, by number, and so many helpers. Refused for want of memory alone.
     pub fn new(
         alloc: Global,
@@ -118,12 +125,19 @@ impl<S: Solver> Pool<S> {
         requires few { length tasks.now ≤ 64 }
         requires small { (k : ℕ) → k < length tasks.now → slice_index tasks.now k < 2 ^ 32 - 1 }
         requires workers { workers < 2 ^ 32 - 1 }
-        ensures pool { IfOk result (λ r. (pool_solver r.0 ≡ solver.now) × (tree_count r.0 ≡ length tasks.now)) }
-        ensures sizes { IfOk result (λ r. (k : ℕ) → k < length tasks.now → HasTasks r.0 k (slice_index tasks.now k)) }
+        ensures pool { IfOk result (λ r. (pool_solver r.0 ≡ solver.now)
+            × (tree_count r.0 ≡ length tasks.now)) }
+        ensures sizes { IfOk result (λ r. (k : ℕ) → k < length tasks.now
+            → HasTasks r.0 k (slice_index tasks.now k)) }
         ensures hand_count { IfOk result (λ r. vec_len r.1 ≡ length tasks.now) }
-        ensures hands { IfOk result (λ r. (k : ℕ) (h : _) → k < length tasks.now → IsHandOf r.0 (slice_index_or r.1.items k h) × (tree_of (slice_index_or r.1.items k h) ≡ k) × (spawned_of (slice_index_or r.1.items k h) ≡ 0) × (hand_view (slice_index_or r.1.items k h) ≡ newcomer solver.now 0 (workers + 1))) }
+        ensures hands { IfOk result (λ r. (k : ℕ) (h : _) → k < length tasks.now
+            → IsHandOf r.0 (slice_index_or r.1.items k h)
+            × (tree_of (slice_index_or r.1.items k h) ≡ k)
+            × (spawned_of (slice_index_or r.1.items k h) ≡ 0)
+            × (hand_view (slice_index_or r.1.items k h) ≡ newcomer solver.now 0 (workers + 1))) }
         ensures helper_count { IfOk result (λ r. vec_len r.2 ≡ workers) }
-        ensures helpers { IfOk result (λ r. (j : ℕ) (h : _) → j < workers → IsHelperOf r.0 (slice_index_or r.2.items j h)) }
+        ensures helpers { IfOk result (λ r. (j : ℕ) (h : _) → j < workers
+            → IsHelperOf r.0 (slice_index_or r.2.items j h)) }
     {
         let helpers = crew(alloc, workers)?;
         let mut building = Building {

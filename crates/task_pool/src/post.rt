@@ -11,10 +11,9 @@ use crate::log::Takes;
 use crate::parts::{Post, Tree};
 use crate::shift::Work;
 use crossbeam_deque::Steal;
-use result_table::Done;
-use solver_api::Solver;
+use result_table::{Done, Updates};
 
-impl<S: Solver> Post<S> {
+impl<S: Updates> Post<S> {
     /// Takes a task from the tree's deque, if it gives one.
     fn take(&mut self, at: &Tree<S>) -> Option<Job>
         requires { IsPassOf (stealer_deque at.now.stealer) self.old.pass }

@@ -61,7 +61,8 @@ struct Staffed {
 /// A pool of one tree and one helper whose hand has spawned its three tasks.
 fn seated(alloc: Global, solver: &Diffuse) -> Result<Staffed, AllocError>
     ensures pool { IfOk result (λ s. HasTasks s.pool 0 3 × (pool_solver s.pool ≡ solver.now)) }
-    ensures hand { IfOk result (λ s. IsHandOf s.pool s.hand × (tree_of s.hand ≡ 0) × (hand_view s.hand ≡ newcomer solver.now 0 2)) }
+    ensures hand { IfOk result (λ s. IsHandOf s.pool s.hand × (tree_of s.hand ≡ 0)
+        × (hand_view s.hand ≡ newcomer solver.now 0 2)) }
     ensures helper { IfOk result (λ s. IsHelperOf s.pool s.helper) }
 {
     let (pool, mut hands, mut helpers) = Pool::new(alloc, &[3], 1, solver)?;
@@ -76,7 +77,8 @@ fn seated(alloc: Global, solver: &Diffuse) -> Result<Staffed, AllocError>
 /// Gathers the three tasks.
 fn gather_all<R: Abort, G: Gate>(rt: &R, at: &mut Staffed, solver: &Diffuse, gate: &G)
     requires pool { HasTasks at.old.pool 0 3 × (pool_solver at.old.pool ≡ solver.now) }
-    requires hand { IsHandOf at.old.pool at.old.hand × (tree_of at.old.hand ≡ 0) × (hand_view at.old.hand ≡ newcomer solver.now 0 2) }
+    requires hand { IsHandOf at.old.pool at.old.hand × (tree_of at.old.hand ≡ 0)
+        × (hand_view at.old.hand ≡ newcomer solver.now 0 2) }
     ensures { (at.new.pool ≡ at.old.pool) × (at.new.helper ≡ at.old.helper) }
 {
     let first = at.hand.gather(&at.pool, solver, gate, &centre(0, 100));

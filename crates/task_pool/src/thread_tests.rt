@@ -56,7 +56,8 @@ impl Tally {
 fn spawn_up_to(hand: &mut TreeHand<Diffuse>, pool: &Pool<Diffuse>, end: u32)
     requires hand { IsHandOf pool.now hand.old × (tree_of hand.old ≡ 0) }
     requires tasks { HasTasks pool.now 0 1000 × (end ≤ 1000) × (spawned_of hand.old ≤ end) }
-    ensures hand { IsHandOf pool.now hand.new × (tree_of hand.new ≡ 0) × (spawned_of hand.new ≡ end) }
+    ensures hand { IsHandOf pool.now hand.new × (tree_of hand.new ≡ 0)
+        × (spawned_of hand.new ≡ end) }
     ensures view { hand_view hand.new ≡ hand_view hand.old }
 {
     'spawns: while hand.spawned() < end {
@@ -109,13 +110,17 @@ fn beside<R: Threads + Sync>(
     join(
         rt,
         move || -> u32
-            requires { IsHandOf pool.now hand × (tree_of hand ≡ 0) × (spawned_of hand ≤ 1000) × HasTasks pool.now 0 1000 × ((k : ℕ) → IsUncollected (hand_view hand) k) × (solver.now ≡ pool_solver pool.now) }
+            requires { IsHandOf pool.now hand × (tree_of hand ≡ 0) × (spawned_of hand ≤ 1000)
+                × HasTasks pool.now 0 1000
+                × ((k : ℕ) → IsUncollected (hand_view hand) k)
+                × (solver.now ≡ pool_solver pool.now) }
         {
             spawn_up_to(&mut hand, pool, TASKS);
             gather_all(&mut hand, pool, solver, mine)
         },
         move || -> (u64, u64)
-            requires { IsHelperOf pool.now first × IsHelperOf pool.now second × (solver.now ≡ pool_solver pool.now) }
+            requires { IsHelperOf pool.now first × IsHelperOf pool.now second
+                × (solver.now ≡ pool_solver pool.now) }
         {
             join(
                 rt,
@@ -141,7 +146,8 @@ struct Crew {
 /// A pool of one tree of a thousand tasks, with two helpers.
 fn pool_of_a_thousand(alloc: Global, solver: &Diffuse) -> Result<Crew, AllocError>
     ensures pool { IfOk result (λ s. HasTasks s.pool 0 1000 × (pool_solver s.pool ≡ solver.now)) }
-    ensures hand { IfOk result (λ s. IsHandOf s.pool s.hand × (tree_of s.hand ≡ 0) × (spawned_of s.hand ≡ 0) × (hand_view s.hand ≡ newcomer solver.now 0 3)) }
+    ensures hand { IfOk result (λ s. IsHandOf s.pool s.hand × (tree_of s.hand ≡ 0)
+        × (spawned_of s.hand ≡ 0) × (hand_view s.hand ≡ newcomer solver.now 0 3)) }
     ensures helpers { IfOk result (λ s. IsHelperOf s.pool s.first × IsHelperOf s.pool s.second) }
 {
     let (pool, mut hands, mut helpers) = Pool::new(alloc, &[TASKS], 2, solver)?;

@@ -5,11 +5,12 @@ use Rattle.std.proofs.lemmas.Bool.{cases_Bool, false≢true}
 use Rattle.peano_keys.specs.declared.dim.Dim.{Dim}
 use Rattle.peano_keys.specs.declared.dim.Dim.TheVariants.{Two, Three}
 use Rattle.peano_keys.specs.declared.cell.CellKey.{CellKey}
+use Rattle.peano_keys.specs.Dim.{children}
 use Rattle.peano_keys.specs.Cell.{IsCell, parent_of}
 use Rattle.peano_keys.specs.Grid.{Spacetree, has_cell, is_refined}
 use Rattle.peano_records.specs.declared.view.CellView.{CellView}
 use Rattle.peano_curve.specs.declared.order.Direction.{Direction}
-use Rattle.peano_curve.specs.Order.{children, child_along, place_along}
+use Rattle.peano_curve.specs.Order.{child_along, place_along}
 use Rattle.vertex_stacks.specs.declared.kind.Kind.{Kind}
 use Rattle.sweep_visits.specs.Plan.{SweepPlan, dim_of, is_cell_in, is_refined_in, is_opened}
 use Rattle.sweep_visits.specs.Visits.{Visit, from_child}

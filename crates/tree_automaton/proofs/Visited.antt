@@ -5,11 +5,13 @@ use Rattle.std.proofs.lemmas.Bool.{cases_Bool, false≢true}
 use Rattle.peano_keys.specs.declared.dim.Dim.{Dim}
 use Rattle.peano_keys.specs.declared.dim.Dim.TheVariants.{Two, Three}
 use Rattle.peano_keys.specs.declared.cell.CellKey.{CellKey}
+use Rattle.peano_keys.specs.Dim.{children}
 use Rattle.peano_keys.specs.Cell.{IsCell, at, parent_of, root}
 use Rattle.peano_keys.specs.Grid.{Spacetree, has_cell, is_refined}
 use Rattle.peano_curve.specs.declared.order.Direction.{Direction}
 use Rattle.peano_curve.specs.declared.order.Direction.TheVariants.{Forward, Backward}
-use Rattle.peano_curve.specs.Order.{children, child_along, counted, nth_child, place_along, sibling_place, turned}
+use Rattle.stack_law.specs.Digits.{turned}
+use Rattle.peano_curve.specs.Order.{child_along, counted, nth_child, place_along, sibling_place}
 use Rattle.peano_curve.proofs.Digits.{child_at_place}
 use Rattle.sweep_visits.specs.Plan.{SweepPlan, IsSweepPlan, IsOldGrid, dim_of, is_cell_in, is_refined_in, is_held, is_visited, is_opened}
 use Rattle.sweep_visits.specs.Visits.{Visit, enter, leave, from_child, visits_at, visits_of}

@@ -44,7 +44,8 @@ pub record HasLists (p : SweepPlan) (number : ℕ) (s : TreeLists) : Type 0 wher
   pub pushed : s.lanes.pushed ≡ 0
   pub counted : s.counted ≡ 0
   pub stored : s.stored ≡ capped (length s.lanes.input)
-  pub leaves : s.leaves ≡ capped (count_by (λ c. not (is_refined_in p.old c) && is_owned p c) (read_by p))
+  pub leaves : s.leaves
+      ≡ capped (count_by (λ c. not (is_refined_in p.old c) && is_owned p c) (read_by p))
 
 -- the plan of a sweep that changes no grid
 abbrev pub plain_plan : ℕ → Range → Direction → Spacetree → SweepPlan
@@ -93,19 +94,30 @@ pub record CanSweep (plan : SweepPlan) (number : ℕ) (field : States) (meaning 
 
 -- What a sweep asks can be met, in each of its kinds: a store that stands for a grid and a field can be shown and stepped,
 abbrev pub StoreCanBeSwept : Type 0
-StoreCanBeSwept = (depth : ℕ) (range : Range) (number : ℕ) (dir : Direction) (t : Spacetree) (f : States) (s : TreeLists) (meaning : Meaning) (kind : Kind) → depth ≤ 12 → IsGrid depth t → StandsFor depth range number dir t f s →
-    served_by kind ≡ Plain → meaning.serves ≡ Plain → meaning.dim ≡ t.dim → CanSweep (plain_plan depth range dir t) number f meaning kind s
+StoreCanBeSwept = (depth : ℕ) (range : Range) (number : ℕ) (dir : Direction) (t : Spacetree)
+    (f : States) (s : TreeLists) (meaning : Meaning) (kind : Kind)
+    → depth ≤ 12 → IsGrid depth t → StandsFor depth range number dir t f s
+    → served_by kind ≡ Plain → meaning.serves ≡ Plain → meaning.dim ≡ t.dim
+    → CanSweep (plain_plan depth range dir t) number f meaning kind s
 
 -- one that stands before an adaptation can be adapted,
 abbrev pub StoreCanBeAdapted : Type 0
-StoreCanBeAdapted = (depth : ℕ) (range : Range) (number : ℕ) (dir : Direction) (old new : Spacetree) (f : States) (s : TreeLists) (meaning : Meaning) → depth ≤ 12 → AreOldAndNew depth new.dim old new → IsGrid depth new → StandsBefore depth range number dir old new s →
-    meaning.serves ≡ Adapting → meaning.dim ≡ new.dim → meaning.new_grid ≡ new → CanSweep (record (plain_plan depth range dir new) { old = Some old }) number f meaning Adapt s
+StoreCanBeAdapted = (depth : ℕ) (range : Range) (number : ℕ) (dir : Direction) (old new : Spacetree)
+    (f : States) (s : TreeLists) (meaning : Meaning)
+    → depth ≤ 12 → AreOldAndNew depth new.dim old new → IsGrid depth new
+    → StandsBefore depth range number dir old new s
+    → meaning.serves ≡ Adapting → meaning.dim ≡ new.dim → meaning.new_grid ≡ new
+    → CanSweep (record (plain_plan depth range dir new) { old = Some old }) number f meaning Adapt s
 
 -- and an empty one can be raised.
 abbrev pub StoreCanBeRaised : Type 0
-StoreCanBeRaised = (depth : ℕ) (range : Range) (number : ℕ) (t : Spacetree) (f : States) (s : TreeLists) (meaning : Meaning) → depth ≤ 12 → IsGrid depth t → IsEmpty depth range number t.dim s →
-    meaning.serves ≡ Raising → meaning.dim ≡ t.dim → meaning.new_grid ≡ t → CanSweep (raising_plan depth range Forward t) number f meaning Raise s
+StoreCanBeRaised = (depth : ℕ) (range : Range) (number : ℕ) (t : Spacetree) (f : States)
+    (s : TreeLists) (meaning : Meaning)
+    → depth ≤ 12 → IsGrid depth t → IsEmpty depth range number t.dim s
+    → meaning.serves ≡ Raising → meaning.dim ≡ t.dim → meaning.new_grid ≡ t
+    → CanSweep (raising_plan depth range Forward t) number f meaning Raise s
 
 -- In a sweep that changes no grid a vertex whose slots intend nothing is at rest.
 abbrev pub FittingIsAtRest : Type 0
-FittingIsAtRest = (p : TreeSweep) (s : Stored) → p.serves ≡ Plain → VertexFits p s → ((n : ℕ) → n < 8 → (slot_at s n).intent ≡ Stay) → IsAtRest p.plan.new p.field s
+FittingIsAtRest = (p : TreeSweep) (s : Stored) → p.serves ≡ Plain → VertexFits p s
+    → ((n : ℕ) → n < 8 → (slot_at s n).intent ≡ Stay) → IsAtRest p.plan.new p.field s

@@ -42,7 +42,8 @@ pub record CornersAsk (m : Story) (made more : List Move) (course : Course) (par
 pub record CornersGive (m : Story) (more : List Move) (course : Course) (c : CellKey) (n : ℕ) (t : TreeLists) (cs : List Corner) : Type 0 where
   pub made : List Move
   pub holds : HoldsVertices m made (arrivals_below m.sweep.plan c n ++ more) t.lanes
-  pub each : (k : ℕ) → n ≤ k → k < corners course.dim → CornerTaken m c (corner_of c k) (slice_index_or cs k Beyond)
+  pub each : (k : ℕ) → n ≤ k → k < corners course.dim
+      → CornerTaken m c (corner_of c k) (slice_index_or cs k Beyond)
 
 -- a vertex is one with which a cell was left at a corner
 pub record IsLeftWith (m : Story) (c : CellKey) (n : ℕ) (s : Stored) : Type 0 where
@@ -64,8 +65,10 @@ pub record GiveAllAsks (m : Story) (made more : List Move) (course : Course) (pa
   pub decides : Decides m.sweep course parent c
   pub dim : s.lanes.dim ≡ course.dim
   pub holds : HoldsVertices m made (departures_from m.sweep.plan c 0 (corners course.dim) ++ more) s.lanes
-  pub fits : (n : ℕ) → n < corners course.dim → CornerFits m.sweep (corner_of c n) (slice_index_or cs n Beyond)
-  pub told : (n : ℕ) (v : Stored) → n < corners course.dim → slice_index_or cs n Beyond ≡ Vertex v → IsLeftWith m c n v
+  pub fits : (n : ℕ) → n < corners course.dim
+      → CornerFits m.sweep (corner_of c n) (slice_index_or cs n Beyond)
+  pub told : (n : ℕ) (v : Stored) → n < corners course.dim → slice_index_or cs n Beyond ≡ Vertex v
+      → IsLeftWith m c n v
 
 -- the corners below a number were given, and as many from there on come next
 pub record GivenBelow (m : Story) (more : List Move) (c : CellKey) (n rest : ℕ) (t : TreeLists) : Type 0 where
@@ -85,7 +88,8 @@ pub record ReadGives (m : Story) (made more : List Visit) (c : CellKey) (t : Tre
 
 -- corners of a cell are those that were taken
 abbrev pub AreTaken : Story → CellKey → List Corner → Type 0
-AreTaken m c cs = (n : ℕ) → n < corners (dim_of m.sweep.plan) → CornerTaken m c (corner_of c n) (slice_index_or cs n Beyond)
+AreTaken m c cs = (n : ℕ) → n < corners (dim_of m.sweep.plan)
+    → CornerTaken m c (corner_of c n) (slice_index_or cs n Beyond)
 
 -- places from a number on hold no corner
 abbrev pub AreBeyond : ℕ → List Corner → Type 0

@@ -32,9 +32,12 @@ pub record Decides (p : TreeSweep) (course : Course) (parent : Option CellView) 
 
 -- where a corner comes from: the lane from the cell before it in the run; at the first cell the input, where the old grid stores it, or nowhere, where it is made; a corner that is not kept hangs
 abbrev pub EntryIs : SweepPlan → CellKey → VertexKey → Entry → Type 0
-EntryIs p c v (entry.Lane k) = (is_kept p v ≡ true) × ((q : CellKey) × (previous_in_run p v c ≡ Some q) × (k ≡ lane_between v c q))
-EntryIs p c v entry.Input = (is_kept p v ≡ true) × (previous_in_run p v c ≡ None) × (is_stored_in p.old v ≡ true)
-EntryIs p c v entry.Made = (is_kept p v ≡ true) × (previous_in_run p v c ≡ None) × (is_stored_in p.old v ≡ false)
+EntryIs p c v (entry.Lane k) = (is_kept p v ≡ true)
+    × ((q : CellKey) × (previous_in_run p v c ≡ Some q) × (k ≡ lane_between v c q))
+EntryIs p c v entry.Input = (is_kept p v ≡ true) × (previous_in_run p v c ≡ None)
+    × (is_stored_in p.old v ≡ true)
+EntryIs p c v entry.Made = (is_kept p v ≡ true) × (previous_in_run p v c ≡ None)
+    × (is_stored_in p.old v ≡ false)
 EntryIs p c v entry.Hanging = is_kept p v ≡ false
 
 -- where a kept corner goes: the lane to the next cell of the run; at the last cell the output, where the new grid stores it, or nowhere, where it is given up
@@ -50,6 +53,7 @@ IsLaneIn dim entry.Input = Unit {0}
 IsLaneIn dim entry.Made = Unit {0}
 IsLaneIn dim entry.Hanging = Unit {0}
 
+-- a corner that goes to a lane goes to one of the lanes of its dimension
 abbrev pub IsLaneOut : Dim → Exit → Type 0
 IsLaneOut dim (exit.Lane k) = k < 2 * axes dim
 IsLaneOut dim exit.Output = Unit {0}

@@ -30,7 +30,9 @@ asks_for Plain after = not after
 
 -- whatever grids a view shows, it is told of each vertex of its cell's children whether it is stored in the old one, or with `after` in the new one
 abbrev pub Tells : Dim → Bool → CellView → ChildVertices → Type 0
-Tells dim after v told = (depth : ℕ) (old : Option Spacetree) (new : Spacetree) → AreGrids depth dim old new after → Shows dim old new after v → TellsAll dim after old new v.key told
+Tells dim after v told = (depth : ℕ) (old : Option Spacetree) (new : Spacetree)
+    → AreGrids depth dim old new after → Shows dim old new after v
+    → TellsAll dim after old new v.key told
 
 -- what is told of the children of a view's cell, in the grids that a sweep asks
 pub record IsTold (dim : Dim) (serves : Serves) (v : CellView) (told : ChildVertices) : Type 0 where

@@ -57,11 +57,17 @@ pub record IsStop (m : Story) (w : VertexKey) (stop : Stop) : Type 0 where
 
 -- Stops, the last first, are the cells of a vertex's run up to one: each is the next in the run, each finds the record that the one before left, and the first one finds it in the input or new.
 abbrev pub IsJourney : Story → VertexKey → Stop → List Stop → Type 0
-IsJourney m w stop [] = IsStop m w stop × (previous_in_run m.sweep.plan w stop.cell ≡ None) × IsFirstRecord m w stop.before
-IsJourney m w stop (earlier ∷ stops) = IsStop m w stop × (next_in_run m.sweep.plan w earlier.cell ≡ Some stop.cell) × (earlier.after ≡ stop.before) × IsJourney m w earlier stops
+IsJourney m w stop [] = IsStop m w stop × (previous_in_run m.sweep.plan w stop.cell ≡ None)
+    × IsFirstRecord m w stop.before
+IsJourney m w stop (earlier ∷ stops) = IsStop m w stop
+    × (next_in_run m.sweep.plan w earlier.cell ≡ Some stop.cell) × (earlier.after ≡ stop.before)
+    × IsJourney m w earlier stops
 
 -- Each record that a sweep left at a cell came there along the run of its vertex, from the input or new.
 abbrev pub EachRecordHasAJourney : Type 0
-EachRecordHasAJourney = (p : TreeSweep) (start : List Stored) (tale : Tale) (calls : List Call) → AllCallsFit (begun p start tale) calls →
-    (w : VertexKey) (to : Option CellKey) (s : Stored) (left : WasLeft (with_calls (begun p start tale) calls) w to s) →
-    (number : ℕ) × (before : Stored) × (stops : List Stop) × IsJourney (with_calls (begun p start tale) calls) w (record { cell = left.cell; number = number; before = before; after = s }) stops
+EachRecordHasAJourney = (p : TreeSweep) (start : List Stored) (tale : Tale) (calls : List Call)
+    → AllCallsFit (begun p start tale) calls
+    → (w : VertexKey) (to : Option CellKey) (s : Stored)
+    (left : WasLeft (with_calls (begun p start tale) calls) w to s)
+    → (number : ℕ) × (before : Stored) × (stops : List Stop)
+    × IsJourney (with_calls (begun p start tale) calls) w (record { cell = left.cell; number = number; before = before; after = s }) stops

@@ -4,6 +4,7 @@ pub mod Views
 pub mod Promises
 pub mod Story
 pub mod Moments
+pub mod Noted
 pub mod Decisions
 pub mod Handed
 pub mod Visits

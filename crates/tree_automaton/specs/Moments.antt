@@ -50,9 +50,11 @@ records_of (call ∷ calls) = record_of call.visit call.made ++ records_of calls
 -- the cell streams: the records of the cells of the old grid that are still to be entered, and those of the cells of the new grid that were left, with the tasks of their views
 pub record HoldsCells (m : Story) (made more : List Visit) (s : TreeLists) : Type 0 where
   pub cells : s.cells ≡ map (record_in m.sweep) (flat_map (read_at m.sweep.plan) more)
-  pub flags : map flag_of s.written ≡ map (is_refined m.sweep.plan.new) (flat_map (written_at m.sweep.plan) made)
+  pub flags : map flag_of s.written
+      ≡ map (is_refined m.sweep.plan.new) (flat_map (written_at m.sweep.plan) made)
   pub written : s.written ≡ records_of m.calls
-  pub counted : s.counted ≡ capped (count_by (is_owned_leaf m.sweep.plan) (flat_map (written_at m.sweep.plan) made))
+  pub counted : s.counted
+      ≡ capped (count_by (is_owned_leaf m.sweep.plan) (flat_map (written_at m.sweep.plan) made))
 
 -- the store at a moment of a sweep
 pub record IsDuring (m : Story) (made more : List Visit) (s : TreeLists) : Type 0 where

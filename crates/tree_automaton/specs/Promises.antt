@@ -61,7 +61,8 @@ pub record Keeps (v w : CellView) : Type 0 where
 
 -- a relation of each slot before and after, with its vertex and its number
 abbrev pub EachSlot : (VertexKey → ℕ → Slot → Slot → Type 0) → CellView → CellView → Type 0
-EachSlot R v w = (n k : ℕ) (s t : VertexRecord) → corner_at v n ≡ Vertex s → corner_at w n ≡ Vertex t → k < 8 → R s.key k (slot_at s k) (slot_at t k)
+EachSlot R v w = (n k : ℕ) (s t : VertexRecord) → corner_at v n ≡ Vertex s
+    → corner_at w n ≡ Vertex t → k < 8 → R s.key k (slot_at s k) (slot_at t k)
 
 -- the status of a position in a grid
 abbrev pub StatusIn : Spacetree → Option CellKey → Slot → Type 0
@@ -74,12 +75,35 @@ pub record KnowsStep (depth : ℕ) (old new : Spacetree) (v : CellView) : Type 0
   pub was : v.was ≡ flag_in (Some old) v.key
   pub shows : Shows new.dim (Some old) new true v
 
+-- raising: an intent stays, and a position gets the status of the grid
+abbrev pub RaisesSlot : Spacetree → VertexKey → ℕ → Slot → Slot → Type 0
+RaisesSlot grid key k s t = (t.intent ≡ s.intent)
+    × (k < corners grid.dim → StatusIn grid (adjacent_of grid.dim key k) t)
+
+-- adapting: an intent stays, and so does a slot that is not of this cell
+abbrev pub AdaptsSlot : Spacetree → CellKey → VertexKey → ℕ → Slot → Slot → Type 0
+AdaptsSlot grid c key k s t = (t.intent ≡ s.intent)
+    × (adjacent_of grid.dim key k ≡ Some c ⊎ ((t.status ≡ s.status) × (t.value ≡ s.value)))
+
+-- a slot of this cell keeps its status, or says whether the new grid refines the cell
+abbrev pub TellsNewStatus : Spacetree → CellKey → VertexKey → ℕ → Slot → Slot → Type 0
+TellsNewStatus grid c key k s t = adjacent_of grid.dim key k ≡ Some c
+    → (t.status ≡ s.status) ⊎ ((t.status ≡ Refined) ↔ (is_refined grid c ≡ true))
+
+-- plain: status and value stay; only a leaf is newly intended to split, and only a refined cell to merge
+abbrev pub MarksSlot : VertexKey → ℕ → Slot → Slot → Type 0
+MarksSlot key k s t = (t.status ≡ s.status) × (t.value ≡ s.value)
+    × (t.intent ≡ Split → (s.intent ≡ Split) ⊎ (s.status ≡ Leaf))
+    × (t.intent ≡ Merge → (s.intent ≡ Merge) ⊎ (s.status ≡ Refined))
+
 -- what a visitor may do to the slots of a view when a cell is entered
 abbrev pub MayEnter : Serves → Spacetree → CellView → CellView → Type 0
-MayEnter Raising grid v w = EachSlot (λ key k s t. (t.intent ≡ s.intent) × (k < corners grid.dim → StatusIn grid (adjacent_of grid.dim key k) t)) v w
-MayEnter Adapting grid v w = EachSlot (λ key k s t. (t.intent ≡ s.intent) × (adjacent_of grid.dim key k ≡ Some v.key ⊎ ((t.status ≡ s.status) × (t.value ≡ s.value)))) v w × ((depth : ℕ) (old : Spacetree) → KnowsStep depth old grid v → EachSlot (λ key k s t. adjacent_of grid.dim key k ≡ Some v.key → (t.status ≡ s.status) ⊎ ((t.status ≡ Refined) ↔ (is_refined grid v.key ≡ true))) v w)
-MayEnter Plain grid v w = EachSlot (λ key k s t. (t.status ≡ s.status) × (t.value ≡ s.value) × (t.intent ≡ Split → (s.intent ≡ Split) ⊎ (s.status ≡ Leaf)) × (t.intent ≡ Merge → (s.intent ≡ Merge) ⊎ (s.status ≡ Refined))) v w
+MayEnter Raising grid v w = EachSlot (RaisesSlot grid) v w
+MayEnter Adapting grid v w = EachSlot (AdaptsSlot grid v.key) v w
+    × ((depth : ℕ) (old : Spacetree) → KnowsStep depth old grid v → EachSlot (TellsNewStatus grid v.key) v w)
+MayEnter Plain grid v w = EachSlot MarksSlot v w
 
+-- what a visitor may change in the slots of a view at the leave of a cell
 abbrev pub MayLeave : Serves → Spacetree → CellView → CellView → Type 0
 MayLeave Raising grid v w = EachSlot (λ key k s t. (t.intent ≡ s.intent) × (t.status ≡ s.status)) v w
 MayLeave Adapting grid v w = MayEnter Adapting grid v w
@@ -88,5 +112,6 @@ MayLeave Plain grid v w = MayEnter Plain grid v w
 -- what a visitor says of the new grid
 abbrev pub Foresees : Serves → Spacetree → CellView → Bool → Type 0
 Foresees Raising grid v b = b ≡ is_refined grid v.key
-Foresees Adapting grid v b = (depth : ℕ) (old : Spacetree) → KnowsStep depth old grid v → b ≡ is_refined grid v.key
+Foresees Adapting grid v b = (depth : ℕ) (old : Spacetree) → KnowsStep depth old grid v
+    → b ≡ is_refined grid v.key
 Foresees Plain grid v b = Unit {0}

@@ -3,11 +3,11 @@ use Rattle.std.specs.Prelude.{◌≡◌, ℕ, ◌<◌, ◌≤◌, ◌-◌, ◌||
 use Rattle.peano_keys.specs.declared.cell.CellKey.{CellKey}
 use Rattle.peano_keys.specs.declared.vertex.VertexKey.{VertexKey}
 use Rattle.peano_keys.specs.declared.state.State.{State}
-use Rattle.peano_keys.specs.Dim.{corners}
+use Rattle.peano_keys.specs.Dim.{corners, children}
 use Rattle.peano_keys.specs.Vertex.{corner_of}
 use Rattle.peano_keys.specs.Grid.{has_cell, is_refined}
 use Rattle.peano_keys.specs.Cell.{parent_of}
-use Rattle.peano_curve.specs.Order.{children, place_along}
+use Rattle.peano_curve.specs.Order.{place_along}
 use Rattle.peano_records.specs.Tells.{corner_at}
 use Rattle.peano_records.specs.declared.stored.Stored.{Stored}
 use Rattle.peano_records.specs.declared.view.CellView.{CellView}
@@ -26,10 +26,12 @@ use Rattle.tree_automaton.specs.TreeLists.{TreeLists}
 use Rattle.tree_automaton.specs.Sweep.{TreeSweep, IsTreeSweep, served_by, record_in, is_owned_leaf, cell_visits}
 use Rattle.tree_automaton.specs.Promises.{Keeps, MayEnter, MayLeave, Meaning}
 use Rattle.tree_automaton.specs.Story.{Call, IsAmong, Story, IsOfOutput, Matched, with_calls}
+use Rattle.tree_automaton.specs.Noted.{note_of}
 use Rattle.tree_automaton.specs.Moments.{IsDuring, IsStoreOf, flag_of, records_of}
 use Rattle.tree_automaton.specs.Views.{VertexFits, ViewFits, ViewGiven, value_at_home}
 use Rattle.tree_automaton.specs.Visits.{IsBefore, CornerTaken}
 
+-- the visit of a call
 abbrev pub visit_of : Call → Visit
 visit_of call = call.visit
 
@@ -53,12 +55,15 @@ pub record WasEntered (m : Story) (c : CellKey) (view : CellView) : Type 0 where
 
 -- below the root a cell carries a value of its parent's view, as the visitor left that at the parent's enter
 abbrev pub CarriesOfParent : Story → CellKey → State → Type 0
-CarriesOfParent m c carried = 0 < c.level → (parent : CellView) × WasEntered m (parent_of c) parent × (carried ≡ value_at_home (dim_of m.sweep.plan) parent)
+CarriesOfParent m c carried = 0 < c.level
+    → (parent : CellView) × WasEntered m (parent_of c) parent
+    × (carried ≡ value_at_home (dim_of m.sweep.plan) parent)
 
 -- a call at the enter of a cell: the vertices of its view are as they were left last, and are changed as the kind allows
 pub record IsEntered (m : Story) (c : CellKey) (given made : CellView) : Type 0 where
   pub view : ViewGiven m.sweep c given
-  pub taken : (n : ℕ) → n < corners (dim_of m.sweep.plan) → CornerTaken m c (corner_of c n) (corner_at given n)
+  pub taken : (n : ℕ) → n < corners (dim_of m.sweep.plan)
+      → CornerTaken m c (corner_of c n) (corner_at given n)
   pub carries : CarriesOfParent m c given.carried
   pub keeps : Keeps given made
   pub may : MayEnter m.sweep.serves m.sweep.plan.new given made
@@ -70,6 +75,7 @@ pub record IsLeft (m : Story) (c : CellKey) (given made : CellView) : Type 0 whe
   pub keeps : Keeps given made
   pub may : MayLeave m.sweep.serves m.sweep.plan.new given made
 
+-- a call fits what came before it: at the enter of a cell, or at its leave
 abbrev pub CallFits : Story → Visit → CellView → CellView → Type 0
 CallFits m (enter c) given made = IsEntered m c given made
 CallFits m (leave c) given made = IsLeft m c given made
@@ -77,7 +83,8 @@ CallFits m (leave c) given made = IsLeft m c given made
 -- each call fits what came before it
 abbrev pub AllCallsFit : Story → List Call → Type 0
 AllCallsFit m [] = Unit {0}
-AllCallsFit m (call ∷ calls) = CallFits m call.visit call.given call.made × AllCallsFit (with_calls m (call ∷ [])) calls
+AllCallsFit m (call ∷ calls) = CallFits m call.visit call.given call.made
+    × AllCallsFit (with_calls m (call ∷ [])) calls
 
 -- the visitor's new grid is the sweep's
 abbrev pub GridsAgree : Serves → TreeSweep → Meaning → Type 0
@@ -194,7 +201,7 @@ pub record SweepGives {A : Type 0} (entered left : A → CellView → CellView �
   pub visits_are : map visit_of calls ≡ visits_of p.plan
   pub chain : Chain entered left calls x y
   pub fit : AllCallsFit (begun p start tale) calls
-  pub note_is : note ≡ record { step = step; kind = kind; tree = p.tree; taken = capped (length (taken_by (moves_of p.plan))); put = capped (length (put_by (moves_of p.plan))); pushed = capped (length (pushed_by (moves_of p.plan))) }
+  pub note_is : note ≡ note_of p.plan kind step p.tree
   pub cells : t.cells ≡ reverse (records_of calls)
   pub flags : map flag_of (reverse t.cells) ≡ map (is_refined p.plan.new) (written_by p.plan)
   pub written : t.written ≡ []

@@ -1,5 +1,7 @@
 -- What views and vertex records hold in a sweep.
 use Rattle.std.specs.Prelude.{◌≡◌, ◌⊎◌, ℕ, ◌<◌, ◌≤◌, Bool, true, false, Option, Some, None, length, List, [], ◌∷◌, All, ◌+◌, pos}
+use Rattle.std.specs.Borrow.{Bor}
+use Rattle.std.specs.Option.{option_map}
 use Rattle.peano_keys.specs.declared.dim.Dim.{Dim}
 use Rattle.peano_keys.specs.declared.cell.CellKey.{CellKey}
 use Rattle.peano_keys.specs.declared.vertex.VertexKey.{VertexKey}
@@ -23,6 +25,10 @@ use Rattle.tree_automaton.specs.declared.kinds.Serves.{Serves}
 use Rattle.tree_automaton.specs.declared.kinds.Serves.TheVariants.{Raising, Adapting, Plain}
 use Rattle.sweep_visits.specs.Plan.{dim_of, is_cell_in}
 use Rattle.tree_automaton.specs.Sweep.{TreeSweep, flag_in, tells_new}
+
+-- what is lent, where something is
+abbrev pub seen : {T : Type 0} → Option (Bor T) → Option T
+seen lent = option_map (λ x. x.now) lent
 
 -- in a plain sweep each slot has its cell's status and value
 abbrev pub HasValues : Serves → TreeSweep → VertexRecord → Type 0
@@ -59,7 +65,8 @@ CornerGiven p w Beyond = ⊥
 abbrev pub KnowsField : Serves → TreeSweep → CellKey → CellView → Type 0
 KnowsField Raising p c v = Unit {0}
 KnowsField Adapting p c v = Unit {0}
-KnowsField Plain p c v = (v.sides ≡ sides_of p.plan.new p.field c) × (0 < c.level → v.carried ≡ value_of p.plan.new p.field (parent_of c))
+KnowsField Plain p c v = (v.sides ≡ sides_of p.plan.new p.field c)
+    × (0 < c.level → v.carried ≡ value_of p.plan.new p.field (parent_of c))
 
 -- what is right of a view whatever its vertices hold, once `will` is set
 pub record IsViewOf (p : TreeSweep) (c : CellKey) (v : CellView) : Type 0 where
@@ -96,6 +103,7 @@ value_in dim n (Vertex s) = (slot_at s (slot_from dim n)).value
 value_in dim n (Hanging k) = Single (pos 0)
 value_in dim n Beyond = Single (pos 0)
 
+-- the value of a view's own cell, by the slot at its home corner
 abbrev pub value_at_home : Dim → CellView → State
 value_at_home dim v = value_in dim (home_of dim v.key) (corner_at v (home_of dim v.key))
 

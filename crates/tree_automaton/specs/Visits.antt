@@ -43,7 +43,8 @@ ComesFrom m c w None false s = s ≡ fresh (dim_of m.sweep.plan) w
 
 -- a corner as it was taken: a vertex exactly where it is kept
 abbrev pub CornerTaken : Story → CellKey → VertexKey → Corner → Type 0
-CornerTaken m c w (Vertex s) = (is_kept m.sweep.plan w ≡ true) × ComesFrom m c w (previous_in_run m.sweep.plan w c) (is_stored_in m.sweep.plan.old w) s
+CornerTaken m c w (Vertex s) = (is_kept m.sweep.plan w ≡ true)
+    × ComesFrom m c w (previous_in_run m.sweep.plan w c) (is_stored_in m.sweep.plan.old w) s
 CornerTaken m c w (Hanging k) = (is_kept m.sweep.plan w ≡ false) × (k ≡ w)
 CornerTaken m c w Beyond = ⊥
 
@@ -65,7 +66,8 @@ pub record ViewTaken (m : Story) (c : CellKey) (v : CellView) : Type 0 where
   pub was : v.was ≡ flag_in m.sweep.plan.old c
   pub will : FirstWill m.sweep.serves m.sweep c v.will
   pub eight : length v.corners ≡ 8
-  pub each : (n : ℕ) → n < corners (dim_of m.sweep.plan) → CornerTaken m c (corner_of c n) (corner_at v n)
+  pub each : (n : ℕ) → n < corners (dim_of m.sweep.plan)
+      → CornerTaken m c (corner_of c n) (corner_at v n)
   pub beyond : (n : ℕ) → corners (dim_of m.sweep.plan) ≤ n → corner_at v n ≡ Beyond
   pub field : KnowsField m.sweep.serves m.sweep c v
   pub task : is_cell_in m.sweep.plan.old c ≡ true → v.task ≡ m.sweep.task c
@@ -87,7 +89,8 @@ left_with c given made = record { visit = leave c; given = given; made = made }
 
 -- what `leave` gives: the store at the next moment; the view's vertices are those of the call at this leave
 abbrev pub LeaveGives : Story → List Visit → List Visit → CellKey → CellView → TreeLists → Type 0
-LeaveGives m made more c view t = (given : CellView) → IsDuring (with_calls m (left_with c given view ∷ [])) (made ++ leave c ∷ []) more t
+LeaveGives m made more c view t = (given : CellView)
+    → IsDuring (with_calls m (left_with c given view ∷ [])) (made ++ leave c ∷ []) more t
 
 -- how many corners are vertices
 abbrev pub vertex_part : Corner → ℕ
@@ -95,6 +98,7 @@ vertex_part (Vertex s) = 1
 vertex_part (Hanging k) = 0
 vertex_part Beyond = 0
 
+-- how many of some corners are vertices
 abbrev pub vertices_in : List Corner → ℕ
 vertices_in [] = 0
 vertices_in (k ∷ ks) = vertex_part k + vertices_in ks

@@ -1,6 +1,5 @@
 //! Where a corner comes from when its cell is entered, and where it goes when its cell is left.
 ghost use Rattle.std.specs.Prelude.{◌≡◌, ◌↔◌, ◌<◌, ◌≤◌, ◌*◌, ℕ, length, Option, Some, IsTrue, true};
-ghost use Rattle.std.specs.Option.{option_map};
 ghost use Rattle.peano_keys.specs.Dim.{axes, corners};
 ghost use Rattle.peano_keys.specs.Cell.{IsCell, parent_of};
 ghost use Rattle.peano_keys.specs.Vertex.{corner_of};
@@ -11,6 +10,7 @@ ghost use Rattle.sweep_visits.specs.Plan.{is_held, is_kept, is_stored, is_stored
 ghost use Rattle.tree_automaton.specs.Sweep.{TreeSweep, is_owned};
 ghost use Rattle.tree_automaton.specs.Decisions.{Decides, IsCourse, EntryIs, ExitIs, IsLaneIn, IsLaneOut};
 ghost use Rattle.tree_automaton.specs.Handed.{IsRound, IsTold, IsToldAbove, asks_for};
+ghost use Rattle.tree_automaton.specs.Views.{seen};
 
 use crate::kinds::Serves;
 use handed_down::{
@@ -63,8 +63,11 @@ fn is_corner_told(
     requires child { parent_of cell ≡ parent.now.key }
     requires below { 1 ≤ cell.level }
     requires grid { asks_for course.now.serves after ≡ true }
-    requires told { IsToldAbove course.now.dim course.now.serves (Some parent.now) (option_map (λ t. t.now) told) }
-    ensures { (depth : ℕ) (old : Option Spacetree) (new : Spacetree) → AreGrids depth course.now.dim old new after → Shows course.now.dim old new after parent.now → IsTrue result ↔ IsStoredIn after old new (corner_of cell n) }
+    requires told { IsToldAbove course.now.dim course.now.serves (Some parent.now) (seen told) }
+    ensures { (depth : ℕ) (old : Option Spacetree) (new : Spacetree)
+        → AreGrids depth course.now.dim old new after
+        → Shows course.now.dim old new after parent.now
+        → IsTrue result ↔ IsStoredIn after old new (corner_of cell n) }
 {
     match told {
         Some(told) => is_corner_stored(course.dim, told, after, cell, n),
@@ -111,9 +114,10 @@ fn is_stored_before(
 ) -> bool
     requires cell { IsCell course.now.dim cell }
     requires corner { n < corners course.now.dim }
-    requires told { IsToldAbove course.now.dim course.now.serves (option_map (λ v. v.now) parent) (option_map (λ t. t.now) told) }
-    requires asks { (p : TreeSweep) × Decides p course.now (option_map (λ v. v.now) parent) cell }
-    ensures { (p : TreeSweep) → Decides p course.now (option_map (λ v. v.now) parent.entry) cell → result ≡ is_stored_in p.plan.old (corner_of cell n) }
+    requires told { IsToldAbove course.now.dim course.now.serves (seen parent) (seen told) }
+    requires asks { (p : TreeSweep) × Decides p course.now (seen parent) cell }
+    ensures { (p : TreeSweep) → Decides p course.now (seen parent.entry) cell
+        → result ≡ is_stored_in p.plan.old (corner_of cell n) }
 {
     match course.serves {
         Serves::Raising => false,
@@ -134,9 +138,10 @@ fn is_stored_after(
 ) -> bool
     requires cell { IsCell course.now.dim cell }
     requires corner { n < corners course.now.dim }
-    requires told { IsToldAbove course.now.dim course.now.serves (option_map (λ v. v.now) parent) (option_map (λ t. t.now) told) }
-    requires asks { (p : TreeSweep) × Decides p course.now (option_map (λ v. v.now) parent) cell }
-    ensures { (p : TreeSweep) → Decides p course.now (option_map (λ v. v.now) parent.entry) cell → result ≡ is_stored p.plan.new (corner_of cell n) }
+    requires told { IsToldAbove course.now.dim course.now.serves (seen parent) (seen told) }
+    requires asks { (p : TreeSweep) × Decides p course.now (seen parent) cell }
+    ensures { (p : TreeSweep) → Decides p course.now (seen parent.entry) cell
+        → result ≡ is_stored p.plan.new (corner_of cell n) }
 {
     match parent {
         Some(view) => {
@@ -158,9 +163,11 @@ fn is_kept(
 ) -> bool
     requires cell { IsCell course.now.dim cell }
     requires corner { n < corners course.now.dim }
-    requires told { IsToldAbove course.now.dim course.now.serves (option_map (λ v. v.now) parent) (option_map (λ t. t.now) told) }
-    requires asks { (p : TreeSweep) × Decides p course.now (option_map (λ v. v.now) parent) cell }
-    ensures { (p : TreeSweep) → Decides p course.now (option_map (λ v. v.now) parent.entry) cell → old ≡ is_stored_in p.plan.old (corner_of cell n) → result ≡ is_kept p.plan (corner_of cell n) }
+    requires told { IsToldAbove course.now.dim course.now.serves (seen parent) (seen told) }
+    requires asks { (p : TreeSweep) × Decides p course.now (seen parent) cell }
+    ensures { (p : TreeSweep) → Decides p course.now (seen parent.entry) cell
+        → old ≡ is_stored_in p.plan.old (corner_of cell n)
+        → result ≡ is_kept p.plan (corner_of cell n) }
 {
     match course.serves {
         Serves::Plain => old,
@@ -183,9 +190,11 @@ fn is_staying(
 ) -> bool
     requires cell { IsCell course.now.dim cell }
     requires corner { n < corners course.now.dim }
-    requires told { IsToldAbove course.now.dim course.now.serves (option_map (λ v. v.now) parent) (option_map (λ t. t.now) told) }
-    requires asks { (p : TreeSweep) × Decides p course.now (option_map (λ v. v.now) parent) cell }
-    ensures { (p : TreeSweep) → Decides p course.now (option_map (λ v. v.now) parent.entry) cell → is_kept p.plan (corner_of cell n) ≡ true → result ≡ is_stored p.plan.new (corner_of cell n) }
+    requires told { IsToldAbove course.now.dim course.now.serves (seen parent) (seen told) }
+    requires asks { (p : TreeSweep) × Decides p course.now (seen parent) cell }
+    ensures { (p : TreeSweep) → Decides p course.now (seen parent.entry) cell
+        → is_kept p.plan (corner_of cell n) ≡ true
+        → result ≡ is_stored p.plan.new (corner_of cell n) }
 {
     match course.serves {
         Serves::Plain => true,
@@ -196,7 +205,7 @@ fn is_staying(
 /// What a visited cell knows of the cells round it.
 pub fn around(course: &Course, parent: Option<&CellView>, cell: CellKey) -> Surroundings
     requires cell { IsCell course.now.dim cell }
-    requires asks { (p : TreeSweep) × Decides p course.now (option_map (λ v. v.now) parent) cell }
+    requires asks { (p : TreeSweep) × Decides p course.now (seen parent) cell }
     ensures { IsRound course.now cell result }
 {
     Surroundings::of_cell(course.dim, course.dir, course.depth, &course.range, cell)
@@ -227,10 +236,11 @@ pub fn entry_of(
 ) -> Entry
     requires cell { IsCell course.now.dim cell }
     requires corner { n < corners course.now.dim }
-    requires told { IsToldAbove course.now.dim course.now.serves (option_map (λ v. v.now) parent) (option_map (λ t. t.now) told) }
-    requires asks { (p : TreeSweep) × Decides p course.now (option_map (λ v. v.now) parent) cell }
+    requires told { IsToldAbove course.now.dim course.now.serves (seen parent) (seen told) }
+    requires asks { (p : TreeSweep) × Decides p course.now (seen parent) cell }
     requires round { IsRound course.now cell round.now }
-    ensures value { (p : TreeSweep) → Decides p course.now (option_map (λ v. v.now) parent.entry) cell → EntryIs p.plan cell (corner_of cell n) result }
+    ensures value { (p : TreeSweep) → Decides p course.now (seen parent.entry) cell
+        → EntryIs p.plan cell (corner_of cell n) result }
     ensures lane { IsLaneIn course.now.dim result }
 {
     let old = is_stored_before(course, parent, told, cell, n);
@@ -263,10 +273,11 @@ pub fn exit_of(
 ) -> Exit
     requires cell { IsCell course.now.dim cell }
     requires corner { n < corners course.now.dim }
-    requires told { IsToldAbove course.now.dim course.now.serves (option_map (λ v. v.now) parent) (option_map (λ t. t.now) told) }
-    requires asks { (p : TreeSweep) × Decides p course.now (option_map (λ v. v.now) parent) cell }
+    requires told { IsToldAbove course.now.dim course.now.serves (seen parent) (seen told) }
+    requires asks { (p : TreeSweep) × Decides p course.now (seen parent) cell }
     requires round { IsRound course.now cell round.now }
-    ensures value { (p : TreeSweep) → Decides p course.now (option_map (λ v. v.now) parent.entry) cell → is_kept p.plan (corner_of cell n) ≡ true → ExitIs p.plan cell (corner_of cell n) result }
+    ensures value { (p : TreeSweep) → Decides p course.now (seen parent.entry) cell
+        → is_kept p.plan (corner_of cell n) ≡ true → ExitIs p.plan cell (corner_of cell n) result }
     ensures lane { IsLaneOut course.now.dim result }
 {
     let v = corner(course.dim, cell, n);
@@ -299,8 +310,9 @@ pub fn is_owned(
 ) -> bool
     requires cell { IsCell course.now.dim cell }
     requires round { IsRound course.now cell round.now }
-    requires asks { (p : TreeSweep) × Decides p course.now (option_map (λ v. v.now) parent) cell }
-    ensures { (p : TreeSweep) → Decides p course.now (option_map (λ v. v.now) parent.entry) cell → result ≡ is_owned p.plan cell }
+    requires asks { (p : TreeSweep) × Decides p course.now (seen parent) cell }
+    ensures { (p : TreeSweep) → Decides p course.now (seen parent.entry) cell
+        → result ≡ is_owned p.plan cell }
 {
     if round.whole {
         return true;
@@ -310,7 +322,8 @@ pub fn is_owned(
 
 /// Whether a visited cell is one of the old grid.
 pub fn is_old(course: &Course, parent: Option<&CellView>) -> bool
-    ensures { (p : TreeSweep) (c : CellKey) → Decides p course.now (option_map (λ v. v.now) parent.entry) c → result ≡ is_cell_in p.plan.old c }
+    ensures { (p : TreeSweep) (c : CellKey) → Decides p course.now (seen parent.entry) c
+        → result ≡ is_cell_in p.plan.old c }
 {
     match parent {
         Some(view) => matches!(view.was, Some(true)),
@@ -320,7 +333,8 @@ pub fn is_old(course: &Course, parent: Option<&CellView>) -> bool
 
 /// Whether a visited cell is one of the new grid.
 pub fn is_new(course: &Course, parent: Option<&CellView>) -> bool
-    ensures { (p : TreeSweep) (c : CellKey) → Decides p course.now (option_map (λ v. v.now) parent.entry) c → result ≡ has_cell p.plan.new c }
+    ensures { (p : TreeSweep) (c : CellKey) → Decides p course.now (seen parent.entry) c
+        → result ≡ has_cell p.plan.new c }
 {
     match parent {
         Some(view) => matches!(view.will, Some(true)),

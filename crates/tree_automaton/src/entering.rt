@@ -1,6 +1,5 @@
 //! The enter of a cell.
 ghost use Rattle.std.specs.Prelude.{◌≡◌, ◌<◌, ◌≤◌, ◌*◌, ◌+◌, ◌++◌, ◌∷◌, [], length, slice_set, IsTrue, IsFalse, Option, List, pos, ◌≤ℤ◌, ◌+ℤ◌, false};
-ghost use Rattle.std.specs.Option.{option_map};
 ghost use Rattle.peano_keys.specs.Dim.{axes, corners};
 ghost use Rattle.peano_records.specs.declared.view.Corner.TheVariants.{Vertex};
 ghost use Rattle.vertex_stacks.specs.Lists.{lane_at};
@@ -14,7 +13,7 @@ ghost use Rattle.tree_automaton.specs.declared.kinds.Serves.TheVariants.{Plain};
 ghost use Rattle.tree_automaton.specs.Sweep.{TreeSweep, served_by};
 ghost use Rattle.tree_automaton.specs.Decisions.{Decides};
 ghost use Rattle.tree_automaton.specs.Handed.{IsRound, IsRoundIn, IsToldAbove};
-ghost use Rattle.tree_automaton.specs.Views.{CarriesFrom, IsPlace, value_at_home};
+ghost use Rattle.tree_automaton.specs.Views.{CarriesFrom, IsPlace, value_at_home, seen};
 ghost use Rattle.tree_automaton.specs.Story.{Story};
 ghost use Rattle.tree_automaton.specs.Visits.{EnterAsks, EnterGives, IsSameTree, will_first, vertex_part, vertices_in};
 ghost use Rattle.tree_automaton.specs.Corners.{CornerAsks, CornerGives, CornersAsk, CornersGive, ReadAsks, ReadGives, AreTaken, MovesVertices, AreBeyond};
@@ -26,7 +25,9 @@ use crate::store::TreeStore;
 use crate::views::{blank_view, edges};
 use handed_down::{ChildVertices, Surroundings};
 use hanging_nodes::sides_into;
-use peano_keys::{CellKey, Dim, Sides, State, corner as corner_key, home_corner, slot_of};
+use peano_keys::{
+    CellKey, Dim, Sides, State, corner as corner_key, corner_count, home_corner, slot_of,
+};
 use peano_records::{CellView, Corner, Stored};
 use vertex_stacks::Kind;
 
@@ -45,7 +46,8 @@ fn make_vertex(corner: &mut Corner)
 // Takes the next vertex of the input into a corner; false where the input is empty.
 fn take_input(store: &mut TreeStore, corner: &mut Corner) -> bool
     ensures none { IsFalse result → store.old.lanes.input ≡ [] }
-    ensures first { IsTrue result → (v : Stored) × (corner.new ≡ Vertex v) × (store.old.lanes.input ≡ v ∷ store.new.lanes.input) }
+    ensures first { IsTrue result
+        → (v : Stored) × (corner.new ≡ Vertex v) × (store.old.lanes.input ≡ v ∷ store.new.lanes.input) }
     ensures others { IsTrue result → store.new ≡ record store.old {
       lanes = record store.old.lanes {
         input = store.new.lanes.input;
@@ -67,7 +69,8 @@ fn take_input(store: &mut TreeStore, corner: &mut Corner) -> bool
 fn pop(store: &mut TreeStore, lane: u32, corner: &mut Corner) -> bool
     requires { lane < 2 * axes store.old.lanes.dim }
     ensures none { IsFalse result → lane_at store.old.lanes lane ≡ [] }
-    ensures last { IsTrue result → (v : Stored) × (corner.new ≡ Vertex v) × (lane_at store.old.lanes lane ≡ lane_at store.new.lanes lane ++ v ∷ []) }
+    ensures last { IsTrue result
+        → (v : Stored) × (corner.new ≡ Vertex v) × (lane_at store.old.lanes lane ≡ lane_at store.new.lanes lane ++ v ∷ []) }
     ensures others { IsTrue result → store.new ≡ record store.old {
       lanes = record store.old.lanes {
         lanes = slice_set store.old.lanes.lanes lane (lane_at store.new.lanes lane);
@@ -98,11 +101,15 @@ fn take_corner(
     requires cell { IsCell course.now.dim cell }
     requires corner { n < corners course.now.dim }
     requires round { IsRound course.now cell round.now }
-    requires told { IsToldAbove course.now.dim course.now.serves (option_map (λ v. v.now) parent) (option_map (λ t. t.now) told) }
-    requires asks { (m : Story) × (made : List Move) × (more : List Move) × CornerAsks m made more course.now (option_map (λ v. v.now) parent) cell n store.old }
-    ensures taken { (m : Story) (made more : List Move) → CornerAsks m made more course.now (option_map (λ v. v.now) parent.entry) cell n store.old → CornerGives m made more cell n store.new corner.new }
+    requires told { IsToldAbove course.now.dim course.now.serves (seen parent) (seen told) }
+    requires asks { (m : Story) × (made : List Move) × (more : List Move)
+        × CornerAsks m made more course.now (seen parent) cell n store.old }
+    ensures taken { (m : Story) (made more : List Move)
+        → CornerAsks m made more course.now (seen parent.entry) cell n store.old
+        → CornerGives m made more cell n store.new corner.new }
     ensures others { MovesVertices store.old store.new }
-    ensures spare { course.now.serves ≡ Plain → (store.old.lanes.spare +ℤ pos (vertex_part corner.new)) ≤ℤ store.new.lanes.spare }
+    ensures spare { course.now.serves ≡ Plain
+        → (store.old.lanes.spare +ℤ pos (vertex_part corner.new)) ≤ℤ store.new.lanes.spare }
 {
     match entry_of(course, parent, told, round, cell, n) {
         Entry::Lane(lane) => {
@@ -124,17 +131,6 @@ fn take_corner(
     }
 }
 
-// How many corners a cell has.
-pub(crate) fn corner_count(dim: Dim) -> u32
-    ensures value { result ≡ corners dim }
-    ensures most { result ≤ 8 }
-{
-    match dim {
-        Dim::Two => 4,
-        Dim::Three => 8,
-    }
-}
-
 // Takes all corners of a cell into their places, the greatest number first.
 fn take_corners(
     store: &mut TreeStore,
@@ -149,13 +145,17 @@ fn take_corners(
     requires eight { length taken.old ≡ 8 }
     requires beyond { AreBeyond (corners course.now.dim) taken.old }
     requires round { IsRound course.now cell round.now }
-    requires told { IsToldAbove course.now.dim course.now.serves (option_map (λ v. v.now) parent) (option_map (λ t. t.now) told) }
-    requires asks { (m : Story) × (made : List Move) × (more : List Move) × CornersAsk m made more course.now (option_map (λ v. v.now) parent) cell store.old }
+    requires told { IsToldAbove course.now.dim course.now.serves (seen parent) (seen told) }
+    requires asks { (m : Story) × (made : List Move) × (more : List Move)
+        × CornersAsk m made more course.now (seen parent) cell store.old }
     ensures eight { length taken.new ≡ 8 }
-    ensures taken { (m : Story) (made more : List Move) → CornersAsk m made more course.now (option_map (λ v. v.now) parent.entry) cell store.old → CornersGive m more course.now cell 0 store.new taken.new }
+    ensures taken { (m : Story) (made more : List Move)
+        → CornersAsk m made more course.now (seen parent.entry) cell store.old
+        → CornersGive m more course.now cell 0 store.new taken.new }
     ensures beyond { AreBeyond (corners course.now.dim) taken.new }
     ensures others { MovesVertices store.old store.new }
-    ensures spare { course.now.serves ≡ Plain → (store.old.lanes.spare +ℤ pos (vertices_in taken.new)) ≤ℤ store.new.lanes.spare }
+    ensures spare { course.now.serves ≡ Plain
+        → (store.old.lanes.spare +ℤ pos (vertices_in taken.new)) ≤ℤ store.new.lanes.spare }
 {
     let count = corner_count(course.dim);
     for k in 0..count {
@@ -180,8 +180,11 @@ fn read_cell(
     parent: Option<&CellView>,
     cell: CellKey,
 ) -> (Option<bool>, u32)
-    requires asks { (m : Story) × (made : List Visit) × (more : List Visit) × ReadAsks m made more course.now (option_map (λ v. v.now) parent) cell store.old }
-    ensures read { (m : Story) (made more : List Visit) → ReadAsks m made more course.now (option_map (λ v. v.now) parent.entry) cell store.old → ReadGives m made more cell store.new result.0 result.1 }
+    requires asks { (m : Story) × (made : List Visit) × (more : List Visit)
+        × ReadAsks m made more course.now (seen parent) cell store.old }
+    ensures read { (m : Story) (made more : List Visit)
+        → ReadAsks m made more course.now (seen parent.entry) cell store.old
+        → ReadGives m made more cell store.new result.0 result.1 }
     ensures others { store.new ≡ record store.old { cells = store.new.cells; live = false } }
 {
     if !is_old(course, parent) {
@@ -203,8 +206,10 @@ fn sides_here(
     sides: &mut Sides,
 )
     requires cell { IsCell course.now.dim cell }
-    requires asks { (p : TreeSweep) × Decides p course.now (option_map (λ v. v.now) parent) cell }
-    ensures { (m : Story) → Decides m.sweep course.now (option_map (λ v. v.now) parent.entry) cell → course.now.serves ≡ Plain → AreTaken m cell taken.now → sides.new ≡ sides_of m.sweep.plan.new m.sweep.field cell }
+    requires asks { (p : TreeSweep) × Decides p course.now (seen parent) cell }
+    ensures { (m : Story) → Decides m.sweep course.now (seen parent.entry) cell
+        → course.now.serves ≡ Plain → AreTaken m cell taken.now
+        → sides.new ≡ sides_of m.sweep.plan.new m.sweep.field cell }
 {
     match course.serves {
         Serves::Plain => match parent {
@@ -222,9 +227,11 @@ fn sides_here(
 // The value in the parent's slot at its home corner; in a plain sweep that of the parent.
 fn carried_here(course: &Course, parent: Option<&CellView>, cell: CellKey) -> State
     requires cell { IsCell course.now.dim cell }
-    requires asks { (p : TreeSweep) × Decides p course.now (option_map (λ v. v.now) parent) cell }
-    ensures at_home { CarriesFrom course.now.dim (option_map (λ v. v.now) parent.entry) result }
-    ensures plain { (p : TreeSweep) → Decides p course.now (option_map (λ v. v.now) parent.entry) cell → course.now.serves ≡ Plain → 0 < cell.level → result ≡ value_of p.plan.new p.field (parent_of cell) }
+    requires asks { (p : TreeSweep) × Decides p course.now (seen parent) cell }
+    ensures at_home { CarriesFrom course.now.dim (seen parent.entry) result }
+    ensures plain { (p : TreeSweep) → Decides p course.now (seen parent.entry) cell
+        → course.now.serves ≡ Plain → 0 < cell.level
+        → result ≡ value_of p.plan.new p.field (parent_of cell) }
 {
     match parent {
         Some(view) => carried_from(course.dim, view),
@@ -267,16 +274,20 @@ pub(crate) fn enter_into(
 )
     requires cell { IsCell store.old.lanes.dim cell }
     requires round { IsRoundIn store.old cell round.now }
-    requires told { IsToldAbove store.old.lanes.dim (served_by kind) (option_map (λ v. v.now) parent) (option_map (λ t. t.now) told) }
+    requires told { IsToldAbove store.old.lanes.dim (served_by kind) (seen parent) (seen told) }
     requires place { IsPlace store.old.lanes.dim view.old }
-    requires asks { (m : Story) × (made : List Visit) × (more : List Visit) × EnterAsks m made more (option_map (λ v. v.now) parent) cell kind store.old }
-    ensures entered { (m : Story) (made more : List Visit) → EnterAsks m made more (option_map (λ v. v.now) parent.entry) cell kind store.old → EnterGives m made more cell store.new view.new }
-    ensures carried { CarriesFrom store.old.lanes.dim (option_map (λ v. v.now) parent.entry) view.new.carried }
+    requires asks { (m : Story) × (made : List Visit) × (more : List Visit)
+        × EnterAsks m made more (seen parent) cell kind store.old }
+    ensures entered { (m : Story) (made more : List Visit)
+        → EnterAsks m made more (seen parent.entry) cell kind store.old
+        → EnterGives m made more cell store.new view.new }
+    ensures carried { CarriesFrom store.old.lanes.dim (seen parent.entry) view.new.carried }
     ensures key { view.new.key ≡ cell }
     ensures place { IsPlace store.old.lanes.dim view.new }
     ensures others { store.new ≡ record store.old { cells = store.new.cells; lanes = store.new.lanes; live = false } }
     ensures tree { IsSameTree store.old store.new }
-    ensures spare { served_by kind ≡ Plain → (store.old.lanes.spare +ℤ pos (vertices_in view.new.corners)) ≤ℤ store.new.lanes.spare }
+    ensures spare { served_by kind ≡ Plain
+        → (store.old.lanes.spare +ℤ pos (vertices_in view.new.corners)) ≤ℤ store.new.lanes.spare }
 {
     let course = store.course(kind);
     let (was, task) = read_cell(store, &course, parent, cell);
@@ -298,12 +309,16 @@ impl Automaton {
         kind: Kind,
     ) -> CellView
         requires cell { IsCell store.old.lanes.dim cell }
-        requires asks { (m : Story) × (made : List Visit) × (more : List Visit) × EnterAsks m made more (option_map (λ v. v.now) parent) cell kind store.old }
-        ensures entered { (m : Story) (made more : List Visit) → EnterAsks m made more (option_map (λ v. v.now) parent.entry) cell kind store.old → EnterGives m made more cell store.new result }
-        ensures carried { CarriesFrom store.old.lanes.dim (option_map (λ v. v.now) parent.entry) result.carried }
+        requires asks { (m : Story) × (made : List Visit) × (more : List Visit)
+            × EnterAsks m made more (seen parent) cell kind store.old }
+        ensures entered { (m : Story) (made more : List Visit)
+            → EnterAsks m made more (seen parent.entry) cell kind store.old
+            → EnterGives m made more cell store.new result }
+        ensures carried { CarriesFrom store.old.lanes.dim (seen parent.entry) result.carried }
         ensures others { store.new ≡ record store.old { cells = store.new.cells; lanes = store.new.lanes; live = false } }
         ensures tree { IsSameTree store.old store.new }
-        ensures spare { served_by kind ≡ Plain → (store.old.lanes.spare +ℤ pos (vertices_in result.corners)) ≤ℤ store.new.lanes.spare }
+        ensures spare { served_by kind ≡ Plain
+            → (store.old.lanes.spare +ℤ pos (vertices_in result.corners)) ≤ℤ store.new.lanes.spare }
     {
         let mut view = blank_view();
         let round = around(&store.course(kind), parent, cell);

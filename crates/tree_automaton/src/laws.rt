@@ -15,7 +15,8 @@ pub fn each_record_has_a_journey()
 /// Where each call keeps one part of a visitor and adds to a list of it, the calls of a sweep together add in order what
 /// each of them adds.
 pub fn calls_collect<V: Visitor, K, R>()
-    ensures { (kept : V → K) (list : V → List R) (adds : K → Call → List R) → Collects V.entered V.left kept list adds }
+    ensures { (kept : V → K) (list : V → List R) (adds : K → Call → List R)
+        → Collects V.entered V.left kept list adds }
 {}
 
 /// A store that stands for a grid and a field can be swept by a visitor that changes no grid.

@@ -1,6 +1,5 @@
 //! The leave of a cell.
 ghost use Rattle.std.specs.Prelude.{◌≡◌, ◌<◌, ◌≤◌, ◌+◌, ◌++◌, length, Option, List, Some, OnOk, IsOk, true, pos, ◌≤ℤ◌, ◌+ℤ◌, if◌then◌else◌};
-ghost use Rattle.std.specs.Option.{option_map};
 ghost use Rattle.peano_keys.specs.Dim.{corners};
 ghost use Rattle.peano_keys.specs.Cell.{IsCell};
 ghost use Rattle.sweep_visits.specs.Visits.{Visit};
@@ -10,6 +9,7 @@ ghost use Rattle.tree_automaton.specs.TreeLists.{spare_cells};
 ghost use Rattle.tree_automaton.specs.Sweep.{TreeSweep, served_by};
 ghost use Rattle.tree_automaton.specs.Decisions.{Decides};
 ghost use Rattle.tree_automaton.specs.Handed.{IsRound, IsRoundIn, IsToldAbove};
+ghost use Rattle.tree_automaton.specs.Views.{seen};
 ghost use Rattle.tree_automaton.specs.Story.{Story};
 ghost use Rattle.tree_automaton.specs.Moments.{record_by};
 ghost use Rattle.tree_automaton.specs.Visits.{LeaveAsks, LeaveGives, IsSameTree, vertex_part, vertices_in};
@@ -17,10 +17,9 @@ ghost use Rattle.tree_automaton.specs.Corners.{GiveAsks, GiveAllAsks, GivenBelow
 
 use crate::automaton::Automaton;
 use crate::decide::{Course, Exit, around, exit_of, is_owned};
-use crate::entering::corner_count;
 use crate::store::TreeStore;
 use handed_down::{ChildVertices, Surroundings};
-use peano_keys::CellKey;
+use peano_keys::{CellKey, corner_count};
 use peano_records::{CellRecord, CellView, Corner};
 use std::alloc::AllocError;
 use vertex_stacks::Kind;
@@ -39,10 +38,13 @@ fn give_corner(
     requires cell { IsCell course.now.dim cell }
     requires corner { n < corners course.now.dim }
     requires round { IsRound course.now cell round.now }
-    requires told { IsToldAbove course.now.dim course.now.serves (option_map (λ v. v.now) parent) (option_map (λ t. t.now) told) }
-    requires asks { (m : Story) × (made : List Move) × (more : List Move) × GiveAsks m made more course.now (option_map (λ v. v.now) parent) cell n given.old store.old }
+    requires told { IsToldAbove course.now.dim course.now.serves (seen parent) (seen told) }
+    requires asks { (m : Story) × (made : List Move) × (more : List Move)
+        × GiveAsks m made more course.now (seen parent) cell n given.old store.old }
     ensures left { given.new ≡ given.old }
-    ensures given { OnOk result ((m : Story) (made more : List Move) → GiveAsks m made more course.now (option_map (λ v. v.now) parent.entry) cell n given.old store.old → GiveGives m made more cell n store.new) }
+    ensures given { OnOk result ((m : Story) (made more : List Move)
+        → GiveAsks m made more course.now (seen parent.entry) cell n given.old store.old
+        → GiveGives m made more cell n store.new) }
     ensures others { MovesVertices store.old store.new }
     ensures spare { OnOk result (store.old.lanes.spare ≤ℤ (store.new.lanes.spare +ℤ pos (vertex_part given.old))) }
     ensures memory { pos (vertex_part given.old) ≤ℤ store.old.lanes.spare → IsOk result }
@@ -70,10 +72,13 @@ fn give_corners(
     requires cell { IsCell course.now.dim cell }
     requires eight { length given.old ≡ 8 }
     requires round { IsRound course.now cell round.now }
-    requires told { IsToldAbove course.now.dim course.now.serves (option_map (λ v. v.now) parent) (option_map (λ t. t.now) told) }
-    requires asks { (m : Story) × (made : List Move) × (more : List Move) × GiveAllAsks m made more course.now (option_map (λ v. v.now) parent) cell given.old store.old }
+    requires told { IsToldAbove course.now.dim course.now.serves (seen parent) (seen told) }
+    requires asks { (m : Story) × (made : List Move) × (more : List Move)
+        × GiveAllAsks m made more course.now (seen parent) cell given.old store.old }
     ensures left { given.new ≡ given.old }
-    ensures given { OnOk result ((m : Story) (made more : List Move) → GiveAllAsks m made more course.now (option_map (λ v. v.now) parent.entry) cell given.old store.old → GivenBelow m more cell (corners course.now.dim) 0 store.new) }
+    ensures given { OnOk result ((m : Story) (made more : List Move)
+        → GiveAllAsks m made more course.now (seen parent.entry) cell given.old store.old
+        → GivenBelow m more cell (corners course.now.dim) 0 store.new) }
     ensures others { MovesVertices store.old store.new }
     ensures spare { OnOk result (store.old.lanes.spare ≤ℤ (store.new.lanes.spare +ℤ pos (vertices_in given.old))) }
     ensures memory { pos (vertices_in given.old) ≤ℤ store.old.lanes.spare → IsOk result }
@@ -105,9 +110,10 @@ fn write_cell(
 ) -> Result<(), AllocError>
     requires cell { IsCell course.now.dim cell }
     requires round { IsRound course.now cell round.now }
-    requires asks { (p : TreeSweep) × Decides p course.now (option_map (λ v. v.now) parent) cell }
+    requires asks { (p : TreeSweep) × Decides p course.now (seen parent) cell }
     ensures written { OnOk result (store.new.written ≡ store.old.written ++ record_by will task) }
-    ensures counted { OnOk result ((p : TreeSweep) → Decides p course.now (option_map (λ v. v.now) parent.entry) cell → store.new.counted ≡ (if is_leaf_left p.plan cell will then capped (store.old.counted + 1) else store.old.counted)) }
+    ensures counted { OnOk result ((p : TreeSweep) → Decides p course.now (seen parent.entry) cell
+        → store.new.counted ≡ (if is_leaf_left p.plan cell will then capped (store.old.counted + 1) else store.old.counted)) }
     ensures others { store.new ≡ record store.old { written = store.new.written; cell_room = store.new.cell_room; counted = store.new.counted } }
     ensures room { store.old.cell_room ≤ store.new.cell_room }
     ensures memory { 0 < spare_cells store.old → IsOk result }
@@ -136,16 +142,20 @@ pub(crate) fn leave_from(
 ) -> Result<(), AllocError>
     requires cell { IsCell store.old.lanes.dim view.old.key }
     requires round { IsRoundIn store.old view.old.key round.now }
-    requires told { IsToldAbove store.old.lanes.dim (served_by kind) (option_map (λ v. v.now) parent) (option_map (λ t. t.now) told) }
-    requires asks { (m : Story) × (made : List Visit) × (more : List Visit) × LeaveAsks m made more (option_map (λ v. v.now) parent) view.old.key view.old kind store.old }
+    requires told { IsToldAbove store.old.lanes.dim (served_by kind) (seen parent) (seen told) }
+    requires asks { (m : Story) × (made : List Visit) × (more : List Visit)
+        × LeaveAsks m made more (seen parent) view.old.key view.old kind store.old }
     ensures stays { view.new ≡ view.old }
-    ensures left { OnOk result ((m : Story) (made more : List Visit) → LeaveAsks m made more (option_map (λ v. v.now) parent.entry) view.old.key view.old kind store.old → LeaveGives m made more view.old.key view.old store.new) }
+    ensures left { OnOk result ((m : Story) (made more : List Visit)
+        → LeaveAsks m made more (seen parent.entry) view.old.key view.old kind store.old
+        → LeaveGives m made more view.old.key view.old store.new) }
     ensures others { store.new ≡ record store.old { written = store.new.written; lanes = store.new.lanes; cell_room = store.new.cell_room; counted = store.new.counted } }
     ensures tree { IsSameTree store.old store.new }
     ensures spare { OnOk result (store.old.lanes.spare ≤ℤ (store.new.lanes.spare +ℤ pos (vertices_in view.old.corners))) }
     ensures cells { spare_cells store.old ≤ spare_cells store.new + 1 }
     ensures room { store.old.cell_room ≤ store.new.cell_room }
-    ensures memory { pos (vertices_in view.old.corners) ≤ℤ store.old.lanes.spare → 0 < spare_cells store.old → IsOk result }
+    ensures memory { pos (vertices_in view.old.corners) ≤ℤ store.old.lanes.spare
+        → 0 < spare_cells store.old → IsOk result }
 {
     let course = store.course(kind);
     give_corners(
@@ -172,14 +182,18 @@ impl Automaton {
         kind: Kind,
     ) -> Result<(), AllocError>
         requires cell { IsCell store.old.lanes.dim view.key }
-        requires asks { (m : Story) × (made : List Visit) × (more : List Visit) × LeaveAsks m made more (option_map (λ v. v.now) parent) view.key view kind store.old }
-        ensures left { OnOk result ((m : Story) (made more : List Visit) → LeaveAsks m made more (option_map (λ v. v.now) parent.entry) view.key view kind store.old → LeaveGives m made more view.key view store.new) }
+        requires asks { (m : Story) × (made : List Visit) × (more : List Visit)
+            × LeaveAsks m made more (seen parent) view.key view kind store.old }
+        ensures left { OnOk result ((m : Story) (made more : List Visit)
+            → LeaveAsks m made more (seen parent.entry) view.key view kind store.old
+            → LeaveGives m made more view.key view store.new) }
         ensures others { store.new ≡ record store.old { written = store.new.written; lanes = store.new.lanes; cell_room = store.new.cell_room; counted = store.new.counted } }
         ensures tree { IsSameTree store.old store.new }
         ensures spare { OnOk result (store.old.lanes.spare ≤ℤ (store.new.lanes.spare +ℤ pos (vertices_in view.corners))) }
         ensures cells { spare_cells store.old ≤ spare_cells store.new + 1 }
         ensures room { store.old.cell_room ≤ store.new.cell_room }
-        ensures memory { pos (vertices_in view.corners) ≤ℤ store.old.lanes.spare → 0 < spare_cells store.old → IsOk result }
+        ensures memory { pos (vertices_in view.corners) ≤ℤ store.old.lanes.spare
+            → 0 < spare_cells store.old → IsOk result }
     {
         let mut view = view;
         let round = around(&store.course(kind), parent, view.key);

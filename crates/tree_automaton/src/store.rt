@@ -250,7 +250,8 @@ impl TreeStore {
 
     // The next cell's record; a store in mid-sweep is not live.
     pub(crate) fn read(&mut self) -> Option<CellRecord>
-        ensures none { result ≡ None → (self.old.cells ≡ []) × (self.new ≡ record self.old { live = false }) }
+        ensures none { result ≡ None
+            → (self.old.cells ≡ []) × (self.new ≡ record self.old { live = false }) }
         ensures first { IfSome result (λ r. self.old.cells ≡ r ∷ self.new.cells) }
         ensures others { IfSome result (λ _. self.new ≡ record self.old { cells = self.new.cells; live = false }) }
     {
@@ -305,7 +306,8 @@ impl TreeStore {
     pub(crate) fn pop_into(&mut self, lane: u32, v: &mut Stored) -> bool
         requires { lane < 2 * axes self.old.lanes.dim }
         ensures none { IsFalse result → (lane_at self.old.lanes lane ≡ []) × (self.new ≡ self.old) }
-        ensures last { IsTrue result → lane_at self.old.lanes lane ≡ lane_at self.new.lanes lane ++ v.new ∷ [] }
+        ensures last { IsTrue result
+            → lane_at self.old.lanes lane ≡ lane_at self.new.lanes lane ++ v.new ∷ [] }
         ensures others { IsTrue result → self.new ≡ record self.old {
           lanes = record self.old.lanes {
             lanes = slice_set self.old.lanes.lanes lane (lane_at self.new.lanes lane);
@@ -360,8 +362,10 @@ impl TreeStore {
         ensures lists { self.new ≡ record self.old { lanes = record self.old.lanes { spare = self.new.lanes.spare }; cell_room = self.new.cell_room } }
         ensures vertices { OnOk result (pos 0 ≤ℤ self.new.lanes.spare) }
         ensures cells { OnOk result (length self.old.cells ≤ self.new.cell_room) }
-        ensures room { OnOk result (held self.old.lanes ≤ self.old.stored → self.old.stored ≤ room_in self.old.lanes.dim (page_count self.new.lanes)) }
-        ensures memory { IsRoomy self.old → held self.old.lanes ≤ self.old.stored → self.old.written ≡ [] → IsOk result }
+        ensures room { OnOk result (held self.old.lanes ≤ self.old.stored
+            → self.old.stored ≤ room_in self.old.lanes.dim (page_count self.new.lanes)) }
+        ensures memory { IsRoomy self.old → held self.old.lanes ≤ self.old.stored
+            → self.old.written ≡ [] → IsOk result }
     {
         self.lanes.reserve_live(self.stored)?;
         self.lanes.reserve(0)?;

@@ -3,7 +3,7 @@ ghost use Rattle.std.specs.Prelude.{◌≡◌};
 ghost use Rattle.peano_keys.specs.declared.dim.Dim.{Dim};
 ghost use Rattle.tree_automaton.specs.Views.{IsPlace, HavePlaces, edges_all};
 
-use peano_keys::{CellKey, Side, Sides, State};
+use peano_keys::{CellKey, Side, Sides, State, root};
 use peano_records::{CellView, Corner};
 
 // Sides of a cell that is alone.
@@ -21,10 +21,7 @@ pub(crate) fn blank_view() -> CellView
     ensures { (dim : Dim) → IsPlace dim result }
 {
     CellView {
-        key: CellKey {
-            level: 0,
-            x: [0; 3],
-        },
+        key: root(),
         was: None,
         will: None,
         corners: [

@@ -1,6 +1,5 @@
 //! The walk of the cells of a tree.
 ghost use Rattle.std.specs.Prelude.{◌≡◌, ◌+◌, ◌-◌, ◌^◌, ◌<◌, ◌≤◌, Option, List, Some, OnOk, OnErr, IsOk, IfOk, true, false, pos, ◌≤ℤ◌};
-ghost use Rattle.std.specs.Option.{option_map};
 ghost use Rattle.peano_keys.specs.Cell.{IsCell, parent_of, root as root_cell};
 ghost use Rattle.peano_curve.specs.Order.{place_along};
 ghost use Rattle.sweep_visits.specs.Plan.{SweepPlan, IsSweepPlan, is_opened};
@@ -13,7 +12,7 @@ ghost use Rattle.tree_automaton.specs.Sweep.{TreeSweep, IsTreeSweep, cell_visits
 ghost use Rattle.tree_automaton.specs.Decisions.{Decides};
 ghost use Rattle.tree_automaton.specs.Handed.{IsRoundIn, IsTold, IsToldAbove};
 ghost use Rattle.tree_automaton.specs.Promises.{IsViewIn};
-ghost use Rattle.tree_automaton.specs.Views.{IsPlace, HavePlaces, ViewFits, says};
+ghost use Rattle.tree_automaton.specs.Views.{IsPlace, HavePlaces, ViewFits, says, seen};
 ghost use Rattle.tree_automaton.specs.Story.{Story};
 ghost use Rattle.tree_automaton.specs.Visits.{ViewTaken, IsSameTree};
 ghost use Rattle.tree_automaton.specs.Sweeps.{SweepAsks, SweepGives, IsFor, WalkAsks, BelowAsks, VisitsGive, HasRoom, StaysNotLive, KeepsRoom, visits_below, visits_rest};
@@ -27,7 +26,7 @@ use crate::views::{blank_view, blank_views};
 use crate::visitor::Visitor;
 use handed_down::{ChildVertices, Surroundings};
 use peano_curve::{first_child, next_child};
-use peano_keys::CellKey;
+use peano_keys::{CellKey, root};
 use peano_records::CellView;
 use std::alloc::AllocError;
 use vertex_stacks::{Kind, SweepNote};
@@ -42,7 +41,9 @@ fn foresee<V: Visitor>(
     requires { IsViewIn (V.meaning visitor.old).dim view.old }
     ensures visitor { visitor.new ≡ visitor.old }
     ensures others { view.new ≡ record view.old { will = view.new.will } }
-    ensures will { (m : Story) → Decides m.sweep course.now (option_map (λ v. v.now) parent.entry) view.old.key → IsFor m.sweep (V.meaning visitor.old) → ViewTaken m view.old.key view.old → view.new.will ≡ flag_in (Some m.sweep.plan.new) view.old.key }
+    ensures will { (m : Story) → Decides m.sweep course.now (seen parent.entry) view.old.key
+        → IsFor m.sweep (V.meaning visitor.old) → ViewTaken m view.old.key view.old
+        → view.new.will ≡ flag_in (Some m.sweep.plan.new) view.old.key }
 {
     match course.serves {
         Serves::Plain => {}
@@ -57,7 +58,8 @@ fn foresee<V: Visitor>(
 
 // Whether a sweep goes below a cell.
 fn is_opened(view: &CellView) -> bool
-    ensures { (p : TreeSweep) → IsTreeSweep p → ViewFits p view.now.key view.now → result ≡ is_opened p.plan view.now.key }
+    ensures { (p : TreeSweep) → IsTreeSweep p → ViewFits p view.now.key view.now
+        → result ≡ is_opened p.plan view.now.key }
 {
     is_refined(view.was) || is_refined(view.will)
 }
@@ -87,18 +89,23 @@ fn walk<V: Visitor>(
 ) -> Result<(), AllocError>
     requires cell { IsCell store.old.lanes.dim cell }
     requires round { IsRoundIn store.old cell round.now }
-    requires told { IsToldAbove store.old.lanes.dim (served_by kind) (option_map (λ v. v.now) parent) (option_map (λ t. t.now) told) }
+    requires told { IsToldAbove store.old.lanes.dim (served_by kind) (seen parent) (seen told) }
     requires place { IsPlace store.old.lanes.dim view.old }
     requires places { HavePlaces store.old.lanes.dim (cell.level + 1) below.old }
-    requires asks { (m : Story) × (made : List Visit) × (more : List Visit) × WalkAsks m (V.meaning visitor.old) made more (option_map (λ v. v.now) parent) cell kind store.old }
+    requires asks { (m : Story) × (made : List Visit) × (more : List Visit)
+        × WalkAsks m (V.meaning visitor.old) made more (seen parent) cell kind store.old }
     ensures place { OnOk result (IsPlace store.old.lanes.dim view.new) }
     ensures places { OnOk result (HavePlaces store.old.lanes.dim (cell.level + 1) below.new) }
-    ensures done { OnOk result ((m : Story) (made more : List Visit) → WalkAsks m (V.meaning visitor.old) made more (option_map (λ v. v.now) parent.entry) cell kind store.old → VisitsGive V.entered V.left m made (cell_visits m.sweep.plan cell) more store.new visitor.old visitor.new) }
+    ensures done { OnOk result ((m : Story) (made more : List Visit)
+        → WalkAsks m (V.meaning visitor.old) made more (seen parent.entry) cell kind store.old
+        → VisitsGive V.entered V.left m made (cell_visits m.sweep.plan cell) more store.new visitor.old visitor.new) }
     ensures same { V.meaning visitor.new ≡ V.meaning visitor.old }
     ensures tree { IsSameTree store.old store.new }
     ensures live { StaysNotLive store.old store.new }
     ensures room { OnOk result (KeepsRoom kind store.old store.new) }
-    ensures memory { (m : Story) (made more : List Visit) → WalkAsks m (V.meaning visitor.old) made more (option_map (λ v. v.now) parent.entry) cell kind store.old → HasRoom m.sweep (V.meaning visitor.old) store.old → IsOk result }
+    ensures memory { (m : Story) (made more : List Visit)
+        → WalkAsks m (V.meaning visitor.old) made more (seen parent.entry) cell kind store.old
+        → HasRoom m.sweep (V.meaning visitor.old) store.old → IsOk result }
 {
     let course = store.course(kind);
     if !is_held(&course, round, cell) {
@@ -125,14 +132,19 @@ fn walk_below<V: Visitor>(
     requires cell { IsCell store.old.lanes.dim view.now.key }
     requires round { IsRoundIn store.old view.now.key round.now }
     requires places { HavePlaces store.old.lanes.dim (view.now.key.level + 1) views.old }
-    requires asks { (m : Story) × (made : List Visit) × (more : List Visit) × BelowAsks m (V.meaning visitor.old) made more view.now.key view.now (visits_below m.sweep.plan view.now.key) kind store.old }
+    requires asks { (m : Story) × (made : List Visit) × (more : List Visit)
+        × BelowAsks m (V.meaning visitor.old) made more view.now.key view.now (visits_below m.sweep.plan view.now.key) kind store.old }
     ensures places { OnOk result (HavePlaces store.old.lanes.dim (view.now.key.level + 1) views.new) }
-    ensures done { OnOk result ((m : Story) (made more : List Visit) → BelowAsks m (V.meaning visitor.old) made more view.now.key view.now (visits_below m.sweep.plan view.now.key) kind store.old → VisitsGive V.entered V.left m made (visits_below m.sweep.plan view.now.key) more store.new visitor.old visitor.new) }
+    ensures done { OnOk result ((m : Story) (made more : List Visit)
+        → BelowAsks m (V.meaning visitor.old) made more view.now.key view.now (visits_below m.sweep.plan view.now.key) kind store.old
+        → VisitsGive V.entered V.left m made (visits_below m.sweep.plan view.now.key) more store.new visitor.old visitor.new) }
     ensures same { V.meaning visitor.new ≡ V.meaning visitor.old }
     ensures tree { IsSameTree store.old store.new }
     ensures live { StaysNotLive store.old store.new }
     ensures room { OnOk result (KeepsRoom kind store.old store.new) }
-    ensures memory { (m : Story) (made more : List Visit) → BelowAsks m (V.meaning visitor.old) made more view.now.key view.now (visits_below m.sweep.plan view.now.key) kind store.old → HasRoom m.sweep (V.meaning visitor.old) store.old → IsOk result }
+    ensures memory { (m : Story) (made more : List Visit)
+        → BelowAsks m (V.meaning visitor.old) made more view.now.key view.now (visits_below m.sweep.plan view.now.key) kind store.old
+        → HasRoom m.sweep (V.meaning visitor.old) store.old → IsOk result }
 {
     if !is_opened(view) {
         return Ok(());
@@ -171,15 +183,23 @@ fn walk_from<V: Visitor>(
     requires places { HavePlaces store.old.lanes.dim (cell.level + 1) below.old }
     requires child { parent_of cell ≡ parent.now.key }
     requires below { 1 ≤ cell.level }
-    requires asks { (m : Story) × (made : List Visit) × (more : List Visit) × BelowAsks m (V.meaning visitor.old) made more parent.now.key parent.now (visits_rest m.sweep.plan cell) kind store.old × (is_opened m.sweep.plan parent.now.key ≡ true) }
+    requires asks { (m : Story) × (made : List Visit) × (more : List Visit)
+        × BelowAsks m (V.meaning visitor.old) made more parent.now.key parent.now (visits_rest m.sweep.plan cell) kind store.old
+        × (is_opened m.sweep.plan parent.now.key ≡ true) }
     ensures place { OnOk result (IsPlace store.old.lanes.dim view.new) }
     ensures places { OnOk result (HavePlaces store.old.lanes.dim (cell.level + 1) below.new) }
-    ensures done { OnOk result ((m : Story) (made more : List Visit) → BelowAsks m (V.meaning visitor.old) made more parent.now.key parent.now (visits_rest m.sweep.plan cell) kind store.old → is_opened m.sweep.plan parent.now.key ≡ true → VisitsGive V.entered V.left m made (visits_rest m.sweep.plan cell) more store.new visitor.old visitor.new) }
+    ensures done { OnOk result ((m : Story) (made more : List Visit)
+        → BelowAsks m (V.meaning visitor.old) made more parent.now.key parent.now (visits_rest m.sweep.plan cell) kind store.old
+        → is_opened m.sweep.plan parent.now.key ≡ true
+        → VisitsGive V.entered V.left m made (visits_rest m.sweep.plan cell) more store.new visitor.old visitor.new) }
     ensures same { V.meaning visitor.new ≡ V.meaning visitor.old }
     ensures tree { IsSameTree store.old store.new }
     ensures live { StaysNotLive store.old store.new }
     ensures room { OnOk result (KeepsRoom kind store.old store.new) }
-    ensures memory { (m : Story) (made more : List Visit) → BelowAsks m (V.meaning visitor.old) made more parent.now.key parent.now (visits_rest m.sweep.plan cell) kind store.old → is_opened m.sweep.plan parent.now.key ≡ true → HasRoom m.sweep (V.meaning visitor.old) store.old → IsOk result }
+    ensures memory { (m : Story) (made more : List Visit)
+        → BelowAsks m (V.meaning visitor.old) made more parent.now.key parent.now (visits_rest m.sweep.plan cell) kind store.old
+        → is_opened m.sweep.plan parent.now.key ≡ true
+        → HasRoom m.sweep (V.meaning visitor.old) store.old → IsOk result }
 {
     let dim = store.dim();
     let dir = store.direction();
@@ -211,14 +231,23 @@ pub fn sweep<V: Visitor>(
     kind: Kind,
 ) -> Result<SweepNote, AllocError>
     requires asks { (p : TreeSweep) × SweepAsks p (V.meaning visitor.old) kind store.old }
-    ensures done { IfOk result (λ note. (p : TreeSweep) → SweepAsks p (V.meaning visitor.old) kind store.old → SweepGives V.entered V.left p step kind store.old.lanes.input store.old.lanes.tale store.new visitor.old visitor.new note) }
-    ensures rest { IfOk result (λ note. (p : TreeSweep) → SweepAsks p (V.meaning visitor.old) kind store.old → (q : SweepPlan) → IsSweepPlan q → ComesAfter p.plan q → HasLists q p.tree store.new) }
+    ensures done { IfOk result (λ note. (p : TreeSweep)
+        → SweepAsks p (V.meaning visitor.old) kind store.old
+        → SweepGives V.entered V.left p step kind store.old.lanes.input store.old.lanes.tale store.new visitor.old visitor.new note) }
+    ensures rest { IfOk result (λ note. (p : TreeSweep)
+        → SweepAsks p (V.meaning visitor.old) kind store.old → (q : SweepPlan) → IsSweepPlan q
+        → ComesAfter p.plan q → HasLists q p.tree store.new) }
     ensures same { V.meaning visitor.new ≡ V.meaning visitor.old }
     ensures refused { OnErr result (store.new.live ≡ false) }
     ensures tale { OnErr result (store.new.lanes.tale ≡ store.old.lanes.tale) }
-    ensures memory { (p : TreeSweep) → SweepAsks p (V.meaning visitor.old) kind store.old → served_by kind ≡ Plain → (V.meaning visitor.old).may_want ≡ false → IsRoomy store.old → IsOk result }
-    ensures roomy { IfOk result (λ _. (p : TreeSweep) → SweepAsks p (V.meaning visitor.old) kind store.old → served_by kind ≡ Plain → store.old.stored < 2 ^ 64 - 1 → IsRoomy store.new) }
-    ensures first { OnErr result (served_by kind ≡ Plain → (V.meaning visitor.old).may_want ≡ false → visitor.new ≡ visitor.old) }
+    ensures memory { (p : TreeSweep) → SweepAsks p (V.meaning visitor.old) kind store.old
+        → served_by kind ≡ Plain → (V.meaning visitor.old).may_want ≡ false → IsRoomy store.old
+        → IsOk result }
+    ensures roomy { IfOk result (λ _. (p : TreeSweep)
+        → SweepAsks p (V.meaning visitor.old) kind store.old → served_by kind ≡ Plain
+        → store.old.stored < 2 ^ 64 - 1 → IsRoomy store.new) }
+    ensures first { OnErr result (served_by kind ≡ Plain → (V.meaning visitor.old).may_want ≡ false
+        → visitor.new ≡ visitor.old) }
 {
     store.stop();
     store.reserve()?;
@@ -237,14 +266,4 @@ pub fn sweep<V: Visitor>(
         &mut below,
     )?;
     Ok(store.turn(step, kind))
-}
-
-// The root.
-fn root() -> CellKey
-    ensures { result ≡ root_cell }
-{
-    CellKey {
-        level: 0,
-        x: [0; 3],
-    }
 }

@@ -47,7 +47,8 @@ Reach pages piles = All (λ pile. pages ≤ pile.reach) piles
 pub record AreInPages (dim : Dim) (pages : ℕ) (pool : PoolSeen) (input output : PileSeen) (lanes : List PileSeen) : Type 0 where
   pub six : length lanes ≡ 6
   pub unused : (n : ℕ) → 2 * axes dim ≤ n → slice_index_or (map items_of lanes) n [] ≡ []
-  pub count : pages ≡ pool.count + (pages_for (length input.items) + pages_for (length output.items) + pages_in (map items_of lanes))
+  pub count : pages
+      ≡ pool.count + (pages_for (length input.items) + pages_for (length output.items) + pages_in (map items_of lanes))
   pub most : pages ≤ 2 ^ 50
   pub in_pool : pages ≤ pool.reach
   pub in_input : pages ≤ input.reach

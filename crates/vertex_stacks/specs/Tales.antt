@@ -45,4 +45,5 @@ with_note t n = record {
 
 -- the tale of a longer list is the tale with one more note
 abbrev pub TaleGrows : Type 0
-TaleGrows = (tale_of [] ≡ no_tale) × ((ns : List Note) (n : Note) → tale_of (ns ++ n ∷ []) ≡ with_note (tale_of ns) n)
+TaleGrows = (tale_of [] ≡ no_tale)
+    × ((ns : List Note) (n : Note) → tale_of (ns ++ n ∷ []) ≡ with_note (tale_of ns) n)

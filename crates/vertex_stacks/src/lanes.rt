@@ -186,7 +186,8 @@ fn reach(
     ensures six { length lanes.new ≡ 6 }
     ensures lanes { map items_of lanes.new ≡ map items_of lanes.old }
     ensures kept { (had : ℕ) → Reach had lanes.old → Reach had lanes.new }
-    ensures ok { OnOk result ((pages ≤ pool.new.reach) × (pages ≤ input.new.reach) × (pages ≤ output.new.reach)) }
+    ensures ok { OnOk result ((pages ≤ pool.new.reach) × (pages ≤ input.new.reach)
+        × (pages ≤ output.new.reach)) }
     ensures all { OnOk result (Reach pages lanes.new) }
 {
     pool.reserve(pages)?;
@@ -302,7 +303,8 @@ impl Lanes {
         ensures kept { self.old.spare ≤ℤ self.new.spare }
         ensures fits { pages_used self.old ≤ pages_of self.old }
         ensures ready { OnOk result (IsTrue is_full → pages_used self.new < pages_of self.new) }
-        ensures grows { OnOk result (IsTrue is_full → pages_of self.new ≡ max (pages_of self.old) (pages_used self.old + 1)) }
+        ensures grows { OnOk result (IsTrue is_full
+            → pages_of self.new ≡ max (pages_of self.old) (pages_used self.old + 1)) }
         ensures stays { IsFalse is_full → self.new ≡ self.old }
         ensures err { OnErr result (self.new ≡ self.old) }
         ensures room { pos 0 <ℤ self.old.spare → IsOk result × (self.new ≡ self.old) }
@@ -359,7 +361,8 @@ impl Lanes {
     /// Takes the next vertex of the input into a place, over what lies there; false where the input
     /// is empty. Takes no memory.
     pub fn take_input_into(&mut self, v: &mut Stored) -> bool
-        ensures none { IsFalse result → (self.old.input ≡ []) × (self.new ≡ self.old) × (v.new ≡ v.old) }
+        ensures none { IsFalse result
+            → (self.old.input ≡ []) × (self.new ≡ self.old) × (v.new ≡ v.old) }
         ensures first { IsTrue result → self.old.input ≡ v.new ∷ self.new.input }
         ensures others { IsTrue result → self.new ≡ record self.old {
           input = self.new.input;
@@ -381,7 +384,8 @@ impl Lanes {
     /// empty. Takes no memory.
     pub fn pop_into(&mut self, lane: u32, v: &mut Stored) -> bool
         requires { lane < 2 * axes self.old.dim }
-        ensures none { IsFalse result → (lane_at self.old lane ≡ []) × (self.new ≡ self.old) × (v.new ≡ v.old) }
+        ensures none { IsFalse result
+            → (lane_at self.old lane ≡ []) × (self.new ≡ self.old) × (v.new ≡ v.old) }
         ensures last { IsTrue result → lane_at self.old lane ≡ lane_at self.new lane ++ v.new ∷ [] }
         ensures others { IsTrue result → self.new ≡ record self.old {
           lanes = slice_set self.old.lanes lane (lane_at self.new lane);
@@ -462,7 +466,8 @@ impl Lanes {
     // Puts a vertex on top of a lane, where a page is free if it takes one.
     fn push_ready(&mut self, lane: u32, v: &Stored)
         requires lane { lane < 2 * axes self.old.dim }
-        requires page { length (lane_at self.old lane) % 64 ≡ 0 → pages_used self.old < pages_of self.old }
+        requires page { length (lane_at self.old lane) % 64 ≡ 0
+            → pages_used self.old < pages_of self.old }
         ensures lists { self.new ≡ record self.old {
           lanes = slice_set self.old.lanes lane (lane_at self.old lane ++ v.now ∷ []);
           spare = self.new.spare;
@@ -491,7 +496,8 @@ impl Lanes {
         ensures room { pos 0 <ℤ self.old.spare → IsOk result }
         ensures pages { OnOk result (pages_of self.new ≡ max (pages_of self.old) (pages_used self.new)) }
         ensures still { pos 0 <ℤ self.old.spare → pages_of self.new ≡ pages_of self.old }
-        ensures live { held self.old < room_of self.old → IsOk result × (pages_of self.new ≡ pages_of self.old) }
+        ensures live { held self.old < room_of self.old
+            → IsOk result × (pages_of self.new ≡ pages_of self.old) }
         ensures six { (length self.old.lanes ≡ 6) × (length self.new.lanes ≡ 6) }
     {
         let is_full = self.output.is_full();
@@ -515,7 +521,8 @@ impl Lanes {
         ensures room { pos 0 <ℤ self.old.spare → IsOk result }
         ensures pages { OnOk result (pages_of self.new ≡ max (pages_of self.old) (pages_used self.new)) }
         ensures still { pos 0 <ℤ self.old.spare → pages_of self.new ≡ pages_of self.old }
-        ensures live { held self.old < room_of self.old → IsOk result × (pages_of self.new ≡ pages_of self.old) }
+        ensures live { held self.old < room_of self.old
+            → IsOk result × (pages_of self.new ≡ pages_of self.old) }
         ensures six { (length self.old.lanes ≡ 6) × (length self.new.lanes ≡ 6) }
     {
         let is_full = self.is_lane_full(lane);
@@ -537,7 +544,8 @@ impl Lanes {
         ensures room { pos 0 <ℤ self.old.spare → IsOk result }
         ensures pages { OnOk result (pages_of self.new ≡ max (pages_of self.old) (pages_used self.new)) }
         ensures still { pos 0 <ℤ self.old.spare → pages_of self.new ≡ pages_of self.old }
-        ensures live { held self.old < room_of self.old → IsOk result × (pages_of self.new ≡ pages_of self.old) }
+        ensures live { held self.old < room_of self.old
+            → IsOk result × (pages_of self.new ≡ pages_of self.old) }
         ensures six { (length self.old.lanes ≡ 6) × (length self.new.lanes ≡ 6) }
     {
         let mut v = v;
@@ -561,7 +569,8 @@ impl Lanes {
         ensures room { pos 0 <ℤ self.old.spare → IsOk result }
         ensures pages { OnOk result (pages_of self.new ≡ max (pages_of self.old) (pages_used self.new)) }
         ensures still { pos 0 <ℤ self.old.spare → pages_of self.new ≡ pages_of self.old }
-        ensures live { held self.old < room_of self.old → IsOk result × (pages_of self.new ≡ pages_of self.old) }
+        ensures live { held self.old < room_of self.old
+            → IsOk result × (pages_of self.new ≡ pages_of self.old) }
         ensures six { (length self.old.lanes ≡ 6) × (length self.new.lanes ≡ 6) }
     {
         let mut v = v;

@@ -69,7 +69,8 @@ impl Page {
     pub(crate) fn set_slot(&mut self, place: usize, n: u32, slot: Slot)
         requires place { place < 64 }
         requires slot { n < 8 }
-        ensures value { (d : Stored) → self.new ≡ slice_set self.old place (with_slot (slice_index_or self.old place d) n slot) }
+        ensures value { (d : Stored)
+            → self.new ≡ slice_set self.old place (with_slot (slice_index_or self.old place d) n slot) }
         ensures eight { (d : Stored) → length (slice_index_or self.old place d).slots ≡ 8 }
     {
         self.near[place].set(&mut self.far[place], &mut self.more[place], n, slot);

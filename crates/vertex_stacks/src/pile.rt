@@ -34,12 +34,14 @@ impl Model for Pile {
 fn open_place(pages: &mut Vec<Page>, pool: &mut Pool, count: usize)
     requires whole { AreWhole pages.old.items }
     requires len { vec_len pages.old ≡ pages_for count }
-    requires page { count % 64 ≡ 0 → (0 < pool.old.count) × (vec_len pages.old < vec_capacity pages.old) }
+    requires page { count % 64 ≡ 0
+        → (0 < pool.old.count) × (vec_len pages.old < vec_capacity pages.old) }
     ensures whole { AreWhole pages.new.items }
     ensures len { vec_len pages.new ≡ count / 64 + 1 }
     ensures items { take count (flat pages.new.items) ≡ take count (flat pages.old.items) }
     ensures capacity { vec_capacity pages.new ≡ vec_capacity pages.old }
-    ensures pool { (pool.new.count + vec_len pages.new ≡ pool.old.count + vec_len pages.old) × (pool.new.reach ≡ pool.old.reach) }
+    ensures pool { (pool.new.count + vec_len pages.new ≡ pool.old.count + vec_len pages.old)
+        × (pool.new.reach ≡ pool.old.reach) }
 {
     if count % 64 == 0 {
         pages.push_reserved(pool.take());
@@ -55,7 +57,8 @@ fn close_place(pages: &mut Vec<Page>, pool: &mut Pool, count: usize)
     ensures len { vec_len pages.new ≡ pages_for count }
     ensures items { take count (flat pages.new.items) ≡ take count (flat pages.old.items) }
     ensures capacity { vec_capacity pages.new ≡ vec_capacity pages.old }
-    ensures pool { (pool.new.count + vec_len pages.new ≡ pool.old.count + vec_len pages.old) × (pool.new.reach ≡ pool.old.reach) }
+    ensures pool { (pool.new.count + vec_len pages.new ≡ pool.old.count + vec_len pages.old)
+        × (pool.new.reach ≡ pool.old.reach) }
 {
     if count % 64 == 0 {
         if let Some(page) = pages.pop() {
@@ -108,7 +111,8 @@ impl Pile {
 
     /// Puts a vertex at the end. The pool gives a page where the last one is full.
     pub(crate) fn push(&mut self, pool: &mut Pool, v: &Stored)
-        requires { length self.old.items % 64 ≡ 0 → (0 < pool.old.count) × (pages_for (length self.old.items) < self.old.reach) }
+        requires { length self.old.items % 64 ≡ 0
+            → (0 < pool.old.count) × (pages_for (length self.old.items) < self.old.reach) }
         ensures items { self.new.items ≡ self.old.items ++ v.now ∷ [] }
         ensures reach { (self.new.reach ≡ self.old.reach) × (pool.new.reach ≡ pool.old.reach) }
         ensures pages { pool.new.count + pages_for (length self.new.items) ≡ pool.old.count + pages_for (length self.old.items) }
@@ -122,7 +126,8 @@ impl Pile {
     /// Takes the vertex at the end; false where there is none. A page that is emptied goes to the pool.
     pub(crate) fn pop(&mut self, pool: &mut Pool, v: &mut Stored) -> bool
         requires { 0 < length self.old.items → pool.old.count < pool.old.reach }
-        ensures none { result ≡ false → (self.old.items ≡ []) × (self.new ≡ self.old) × (v.new ≡ v.old) × (pool.new ≡ pool.old) }
+        ensures none { result ≡ false
+            → (self.old.items ≡ []) × (self.new ≡ self.old) × (v.new ≡ v.old) × (pool.new ≡ pool.old) }
         ensures last { result ≡ true → self.old.items ≡ self.new.items ++ v.new ∷ [] }
         ensures reach { (self.new.reach ≡ self.old.reach) × (pool.new.reach ≡ pool.old.reach) }
         ensures pages { pool.new.count + pages_for (length self.new.items) ≡ pool.old.count + pages_for (length self.old.items) }
@@ -141,7 +146,8 @@ impl Pile {
     pub(crate) fn set_slot(&mut self, place: usize, n: u32, slot: Slot)
         requires place { place < length self.old.items }
         requires slot { n < 8 }
-        ensures items { (d : Stored) → self.new.items ≡ slice_set self.old.items place (with_slot (slice_index_or self.old.items place d) n slot) }
+        ensures items { (d : Stored)
+            → self.new.items ≡ slice_set self.old.items place (with_slot (slice_index_or self.old.items place d) n slot) }
         ensures eight { (d : Stored) → length (slice_index_or self.old.items place d).slots ≡ 8 }
         ensures reach { self.new.reach ≡ self.old.reach }
     {

@@ -54,7 +54,9 @@ rises dim rule own sides = total (map (rise rule own) (faces_of dim sides))
 
 -- by how much the first value changes: `a * 9^level / b` times that sum, rounded down
 abbrev pub change : Laplacian → State → Sides → ℕ → ℤ
-change k own sides level = int_div_euclid ((k.a *ℤ pos (9 ^ level)) *ℤ rises k.dim k.edge own sides) k.b
+change k own sides level =
+    let scale = k.a *ℤ pos (9 ^ level) in
+    int_div_euclid (scale *ℤ rises k.dim k.edge own sides) k.b
 
 -- diffusion: the value moves by the change
 abbrev pub diffused : Laplacian → State → Sides → ℕ → Option State
@@ -66,21 +68,31 @@ new_speed k own sides level = value_at own 1 +ℤ change k own sides level
 
 -- a wave: and its value moves by the new speed
 abbrev pub waved : Laplacian → State → Sides → ℕ → Option State
-waved k own sides level = pair_of (fitted (value_at own 0 +ℤ new_speed k own sides level)) (fitted (new_speed k own sides level))
+waved k own sides level =
+    let speed = new_speed k own sides level in
+    pair_of (fitted (value_at own 0 +ℤ speed)) (fitted speed)
 
 -- how far the leaf's value lies above that across the low face, or the value across the high face above the leaf's, whichever the wind comes from
 abbrev pub upwind_rise : ℤ → EdgeRule → State → Side → Side → ℤ
-upwind_rise speed rule own low high = if int_le (pos 0) speed then (value_at own 0 -ℤ value_at (across rule own low) 0) else (value_at (across rule own high) 0 -ℤ value_at own 0)
+upwind_rise speed rule own low high =
+    if int_le (pos 0) speed
+    then (value_at own 0 -ℤ value_at (across rule own low) 0)
+    else (value_at (across rule own high) 0 -ℤ value_at own 0)
 
 -- what the wind carries off on an axis
 abbrev pub carried_on : ℕ → Upwind → State → Sides → ℕ → ℤ
-carried_on i k own sides level = (speed_on k.wind i *ℤ pos (3 ^ level)) *ℤ upwind_rise (speed_on k.wind i) k.edge own (side_on sides.low i) (side_on sides.high i)
+carried_on i k own sides level =
+    let speed = speed_on k.wind i in
+    (speed *ℤ pos (3 ^ level)) *ℤ upwind_rise speed k.edge own (side_on sides.low i) (side_on sides.high i)
 
 -- and on all axes
 abbrev pub carried : Dim → Upwind → State → Sides → ℕ → ℤ
 carried Two k own sides level = carried_on 0 k own sides level +ℤ carried_on 1 k own sides level
-carried Three k own sides level = (carried_on 0 k own sides level +ℤ carried_on 1 k own sides level) +ℤ carried_on 2 k own sides level
+carried Three k own sides level =
+    (carried_on 0 k own sides level +ℤ carried_on 1 k own sides level) +ℤ carried_on 2 k own sides level
 
 -- advection: the value loses the `b`th part of that, rounded down
 abbrev pub advected : Upwind → State → Sides → ℕ → Option State
-advected k own sides level = single_of (fitted (value_at own 0 -ℤ int_div_euclid (carried k.dim k own sides level) k.b))
+advected k own sides level =
+    let loss = int_div_euclid (carried k.dim k own sides level) k.b in
+    single_of (fitted (value_at own 0 -ℤ loss))

@@ -1,4 +1,5 @@
 pub mod Ranges
 pub mod Kernel
+pub mod Seen
 pub mod Counts
 pub mod Any

@@ -2,8 +2,8 @@
 ghost use Rattle.std.specs.Prelude.{◌≡◌, ◌<◌, ◌||◌, ◌&&◌, IfSome};
 ghost use Rattle.peano_keys.specs.State.{count_of};
 ghost use Rattle.solver_api.specs.Parts.{SideHas, HaveParts};
-ghost use Rattle.std.specs.List.{list_any, list_all};
-ghost use Rattle.solver_api.specs.Marks.{difference, differences, is_at_least, is_below, mark_by, depth_of};
+ghost use Rattle.solver_api.specs.Marks.{difference, mark_by, depth_of};
+ghost use Rattle.volume_solver.specs.Seen.{reaches, is_calm, some_reaches, all_calm};
 
 use peano_keys::{Dim, Mark, Side, Sides, State};
 use solver_api::Criterion;
@@ -46,8 +46,8 @@ fn difference(watch: u32, own: State, side: Side) -> Option<u64>
 fn seen_across(criterion: Criterion, own: State, side: Side) -> Seen
     requires own { criterion.watch < count_of own }
     requires side { SideHas (count_of own) side }
-    ensures reached { result.reached ≡ is_at_least criterion.hi (difference criterion.watch own side) }
-    ensures calm { result.calm ≡ is_below criterion.lo (difference criterion.watch own side) }
+    ensures reached { result.reached ≡ reaches criterion own side }
+    ensures calm { result.calm ≡ is_calm criterion own side }
 {
     match difference(criterion.watch, own, side) {
         None => Seen {
@@ -66,8 +66,8 @@ fn seen_on(criterion: Criterion, own: State, low: Side, high: Side) -> Seen
     requires own { criterion.watch < count_of own }
     requires low { SideHas (count_of own) low }
     requires high { SideHas (count_of own) high }
-    ensures reached { result.reached ≡ (is_at_least criterion.hi (difference criterion.watch own low) || is_at_least criterion.hi (difference criterion.watch own high)) }
-    ensures calm { result.calm ≡ (is_below criterion.lo (difference criterion.watch own low) && is_below criterion.lo (difference criterion.watch own high)) }
+    ensures reached { result.reached ≡ (reaches criterion own low || reaches criterion own high) }
+    ensures calm { result.calm ≡ (is_calm criterion own low && is_calm criterion own high) }
 {
     seen_across(criterion, own, low).with(seen_across(criterion, own, high))
 }
@@ -76,8 +76,8 @@ fn seen_on(criterion: Criterion, own: State, low: Side, high: Side) -> Seen
 fn seen_around(dim: Dim, criterion: Criterion, own: State, sides: &Sides) -> Seen
     requires own { criterion.watch < count_of own }
     requires sides { HaveParts (count_of own) own sides.now }
-    ensures reached { result.reached ≡ list_any (is_at_least criterion.hi) (differences dim criterion.watch own sides.now) }
-    ensures calm { result.calm ≡ list_all (is_below criterion.lo) (differences dim criterion.watch own sides.now) }
+    ensures reached { result.reached ≡ some_reaches dim criterion own sides.now }
+    ensures calm { result.calm ≡ all_calm dim criterion own sides.now }
 {
     let first = seen_on(criterion, own, sides.low[0], sides.high[0]);
     let second = seen_on(criterion, own, sides.low[1], sides.high[1]);

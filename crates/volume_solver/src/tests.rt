@@ -2,7 +2,8 @@
 ghost use Rattle.std.specs.Prelude.{◌≡◌, ◌<◌, ◌≤◌};
 ghost use Rattle.std.specs.Prelude.{IfSome};
 ghost use Rattle.solver_api.specs.Parts.{SideHas, SidesHave};
-ghost use Rattle.volume_solver.specs.Ranges.{IsCriterion};
+ghost use Rattle.volume_solver.specs.Any.{parts_in};
+ghost use Rattle.volume_solver.specs.Ranges.{IsFactor, IsDivisor, EdgeHas, IsCriterion};
 
 use crate::{Advect, AnySolver, Diffuse, EdgeRule, Wave};
 use peano_keys::{Dim, Mark, Side, Sides, State};
@@ -60,75 +61,60 @@ fn updates<S: Solver>(rt: &impl Abort, solver: &S, rows: &[Row])
     }
 }
 
+// Diffusion in a plane by `a / b`.
+fn in_plane(a: i64, b: i64, edge: EdgeRule) -> AnySolver
+    requires a { IsFactor a }
+    requires b { IsDivisor b }
+    requires edge { EdgeHas 1 edge }
+    ensures { parts_in result ≡ 1 }
+{
+    AnySolver::Diffuse(Diffuse::new(Dim::Two, a, b, edge, None))
+}
+
 #[test]
 fn diffusion_in_a_plane(rt: HostRuntime) {
-    let pulse = AnySolver::Diffuse(Diffuse::new(Dim::Two, 1, 90, EdgeRule::Copy, None));
-    updates(
-        &rt,
-        &pulse,
-        &[
-            (100, [ZERO, ZERO, ZERO, ZERO, EDGE, EDGE], 1, Some(60)),
-            (0, [EDGE, Some(100), ZERO, ZERO, EDGE, EDGE], 1, Some(10)),
-            (0, [EDGE, ZERO, EDGE, ZERO, EDGE, EDGE], 1, ZERO),
-            (0, [EDGE, ZERO, EDGE, ZERO, Some(700), Some(700)], 1, ZERO),
-        ],
-    );
-    let floor = AnySolver::Diffuse(Diffuse::new(Dim::Two, 1, 91, EdgeRule::Copy, None));
-    updates(
-        &rt,
-        &floor,
-        &[
-            (100, [ZERO, ZERO, ZERO, ZERO, EDGE, EDGE], 1, Some(60)),
-            (0, [EDGE, Some(100), ZERO, ZERO, EDGE, EDGE], 1, Some(9)),
-        ],
-    );
-    let fixed = AnySolver::Diffuse(Diffuse::new(
-        Dim::Two,
-        1,
-        90,
-        EdgeRule::Fixed(State::Single(9)),
-        None,
-    ));
-    updates(
-        &rt,
-        &fixed,
-        &[
-            (0, [EDGE, ZERO, EDGE, ZERO, EDGE, EDGE], 1, Some(1)),
-            (0, [EDGE, Some(100), ZERO, ZERO, EDGE, EDGE], 1, Some(10)),
-        ],
-    );
-    let levels = AnySolver::Diffuse(Diffuse::new(Dim::Two, 1, 7290, EdgeRule::Copy, None));
-    updates(
-        &rt,
-        &levels,
-        &[
-            (90, [EDGE, ZERO, ZERO, ZERO, EDGE, EDGE], 1, Some(89)),
-            (0, [Some(90), ZERO, ZERO, ZERO, EDGE, EDGE], 2, Some(1)),
-            (0, [Some(90), ZERO, ZERO, ZERO, EDGE, EDGE], 3, Some(9)),
-        ],
-    );
-    let overflow = AnySolver::Diffuse(Diffuse::new(Dim::Two, 1, 1, EdgeRule::Copy, None));
+    let pulse = [
+        (100, [ZERO, ZERO, ZERO, ZERO, EDGE, EDGE], 1, Some(60)),
+        (0, [EDGE, Some(100), ZERO, ZERO, EDGE, EDGE], 1, Some(10)),
+        (0, [EDGE, ZERO, EDGE, ZERO, EDGE, EDGE], 1, ZERO),
+        (0, [EDGE, ZERO, EDGE, ZERO, Some(700), Some(700)], 1, ZERO),
+    ];
+    updates(&rt, &in_plane(1, 90, EdgeRule::Copy), &pulse);
+    let floor = [
+        (100, [ZERO, ZERO, ZERO, ZERO, EDGE, EDGE], 1, Some(60)),
+        (0, [EDGE, Some(100), ZERO, ZERO, EDGE, EDGE], 1, Some(9)),
+    ];
+    updates(&rt, &in_plane(1, 91, EdgeRule::Copy), &floor);
+    let fixed = [
+        (0, [EDGE, ZERO, EDGE, ZERO, EDGE, EDGE], 1, Some(1)),
+        (0, [EDGE, Some(100), ZERO, ZERO, EDGE, EDGE], 1, Some(10)),
+    ];
+    let nine = EdgeRule::Fixed(State::Single(9));
+    updates(&rt, &in_plane(1, 90, nine), &fixed);
+    let levels = [
+        (90, [EDGE, ZERO, ZERO, ZERO, EDGE, EDGE], 1, Some(89)),
+        (0, [Some(90), ZERO, ZERO, ZERO, EDGE, EDGE], 2, Some(1)),
+        (0, [Some(90), ZERO, ZERO, ZERO, EDGE, EDGE], 3, Some(9)),
+    ];
+    updates(&rt, &in_plane(1, 7290, EdgeRule::Copy), &levels);
+}
+
+#[test]
+fn diffusion_at_the_ends_of_its_range(rt: HostRuntime) {
     let most = Some(HUGE);
     let least = Some(-HUGE);
+    let steep = [
+        (-HUGE, [most, most, most, most, EDGE, EDGE], 1, None),
+        (HUGE, [EDGE, least, most, most, EDGE, EDGE], 1, None),
+        (HUGE, [EDGE, most, EDGE, most, EDGE, EDGE], 1, most),
+    ];
+    updates(&rt, &in_plane(1, 1, EdgeRule::Copy), &steep);
+    let far = [HIGHEST, LOWEST, LOWEST, LOWEST, EDGE, EDGE];
+    let new = Some(-4_013_466_658_533_353_448);
     updates(
         &rt,
-        &overflow,
-        &[
-            (-HUGE, [most, most, most, most, EDGE, EDGE], 1, None),
-            (HUGE, [EDGE, least, most, most, EDGE, EDGE], 1, None),
-            (HUGE, [EDGE, most, EDGE, most, EDGE, EDGE], 1, most),
-        ],
-    );
-    let ends = AnySolver::Diffuse(Diffuse::new(Dim::Two, MOST_A, MOST_B, EdgeRule::Copy, None));
-    updates(
-        &rt,
-        &ends,
-        &[(
-            LEAST,
-            [HIGHEST, LOWEST, LOWEST, LOWEST, EDGE, EDGE],
-            12,
-            Some(-4_013_466_658_533_353_448),
-        )],
+        &in_plane(MOST_A, MOST_B, EdgeRule::Copy),
+        &[(LEAST, far, 12, new)],
     );
 }
 

@@ -4,8 +4,11 @@
 
 use peano_io::{MemSink, MemSource};
 use peano_run::run;
-use std::alloc::Global;
+use std::alloc::{Alloc, Global};
+use std::fs::Files;
+use std::thread::Threads;
 use std::{env, fs, io};
+use task_pool::Through;
 
 // The greatest report that is compared, in bytes.
 const ROOM: u64 = 1_000_000;
@@ -14,13 +17,13 @@ const ROOM: u64 = 1_000_000;
 const TEXT: u64 = 128;
 
 // The bytes of a file of the examples.
-fn read(rt: &HostRuntime, name: &str, ending: &str) -> io::Result<Vec<u8>> {
+fn read<R: Files + Alloc<A = Global>>(rt: &R, name: &str, ending: &str) -> io::Result<Vec<u8>> {
     let path = format!(in rt.alloc(); "{name}{ending}")?;
     fs::read(rt, path.as_str())
 }
 
 // The words of a run, one a line of their file.
-fn words_of(rt: &HostRuntime, run: &str) -> io::Result<Vec<String>> {
+fn words_of<R: Files + Alloc<A = Global>>(rt: &R, run: &str) -> io::Result<Vec<String>> {
     let text = fs::read_to_string(rt, run)?;
     let mut words = Vec::new(rt.alloc());
     for word in text.as_str().lines() {
@@ -30,12 +33,17 @@ fn words_of(rt: &HostRuntime, run: &str) -> io::Result<Vec<String>> {
 }
 
 // Runs an example with words, and says whether its report is the one beside it, or why it is refused.
-fn tell(rt: &HostRuntime, run_name: &str, name: &str, words: &[String]) -> io::Result<()> {
+fn tell<R: Threads + Sync + Files + Print + Alloc<A = Global>>(
+    rt: &R,
+    run_name: &str,
+    name: &str,
+    words: &[String],
+) -> io::Result<()> {
     let alloc = rt.alloc();
     let mut input = MemSource::new(read(rt, name, ".toml")?, Vec::new(alloc));
     let mut out = MemSink::new(alloc, ROOM, ROOM, Vec::new(alloc))?;
     let mut err = MemSink::new(alloc, TEXT, TEXT, Vec::new(alloc))?;
-    let outcome = run(alloc, words, &mut input, &mut out, &mut err);
+    let outcome = run(rt, alloc, words, &mut input, &mut out, &mut err, &Through);
     if outcome.status != 0 {
         let text = str::from_utf8(err.bytes()).unwrap_or("no text");
         return println!(rt;

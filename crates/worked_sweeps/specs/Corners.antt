@@ -28,6 +28,7 @@ pub record IsRefinedCentre (r : Cells) : Type 0 where
 abbrev pub forward : Cells → SweepPlan
 forward r = plain r 2 0 81 Forward
 
+-- and backward
 abbrev pub backward : Cells → SweepPlan
 backward r = plain r 2 0 81 Backward
 

@@ -171,11 +171,11 @@ fn compare_adapted(
 // stores, and put that the new one stores, where the tree holds a cell round it; it is pushed once less than there are such
 // cells.
 #[test]
-fn trees_are_adapted(rt: HostRuntime) -> Result<(), AllocError> {
+fn trees_of_a_plane_are_adapted(rt: HostRuntime) -> Result<(), AllocError> {
     let table = [
         (
             "all of the plane",
-            (Dim::Two, (1, 0)),
+            (1, 0),
             [
                 [24, 24, 32, 17, 19],
                 [24, 47, 90, 33, 37],
@@ -184,7 +184,7 @@ fn trees_are_adapted(rt: HostRuntime) -> Result<(), AllocError> {
         ),
         (
             "a range that ends inside the centre",
-            (Dim::Two, (2, 0)),
+            (2, 0),
             [
                 [18, 18, 12, 8, 10],
                 [18, 36, 51, 20, 24],
@@ -193,7 +193,7 @@ fn trees_are_adapted(rt: HostRuntime) -> Result<(), AllocError> {
         ),
         (
             "a range that begins there",
-            (Dim::Two, (2, 1)),
+            (2, 1),
             [
                 [19, 19, 15, 9, 11],
                 [19, 24, 31, 13, 15],
@@ -202,12 +202,22 @@ fn trees_are_adapted(rt: HostRuntime) -> Result<(), AllocError> {
         ),
         (
             "a range within the centre",
-            (Dim::Two, (3, 1)),
+            (3, 1),
             [[12, 12, 8, 6, 8], [12, 8, 8, 1, 2], [8, 8, 0, 1, 2]],
         ),
+    ];
+    for (name, tree, want) in table {
+        compare_adapted(&rt, rt.alloc(), name, Dim::Two, tree, want)?;
+    }
+    Ok(())
+}
+
+#[test]
+fn trees_of_space_are_adapted(rt: HostRuntime) -> Result<(), AllocError> {
+    let table = [
         (
             "all of space",
-            (Dim::Three, (1, 0)),
+            (1, 0),
             [
                 [80, 80, 208, 53, 55],
                 [80, 180, 675, 131, 136],
@@ -215,8 +225,8 @@ fn trees_are_adapted(rt: HostRuntime) -> Result<(), AllocError> {
             ],
         ),
         (
-            "in space a range that ends inside the centre",
-            (Dim::Three, (2, 0)),
+            "a range that ends inside the centre",
+            (2, 0),
             [
                 [58, 58, 90, 26, 28],
                 [58, 141, 450, 91, 96],
@@ -224,8 +234,8 @@ fn trees_are_adapted(rt: HostRuntime) -> Result<(), AllocError> {
             ],
         ),
         (
-            "in space a range that begins there",
-            (Dim::Three, (2, 1)),
+            "a range that begins there",
+            (2, 1),
             [
                 [59, 59, 97, 27, 29],
                 [59, 78, 195, 40, 42],
@@ -233,9 +243,8 @@ fn trees_are_adapted(rt: HostRuntime) -> Result<(), AllocError> {
             ],
         ),
     ];
-    let alloc = rt.alloc();
-    for (name, (dim, tree), want) in table {
-        compare_adapted(&rt, alloc, name, dim, tree, want)?;
+    for (name, tree, want) in table {
+        compare_adapted(&rt, rt.alloc(), name, Dim::Three, tree, want)?;
     }
     Ok(())
 }

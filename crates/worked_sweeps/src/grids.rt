@@ -7,17 +7,12 @@ ghost use Rattle.spacetree.specs.Fields.{IsFieldOn};
 ghost use Rattle.worked_sweeps.specs.Trees.{LeadsTo};
 
 use peano_curve::{Direction, first_child, next_child};
-use peano_keys::{CellKey, Dim, State, is_cell};
+use peano_keys::{CellKey, Dim, State, is_cell, root};
 use solver_api::Criterion;
 use spacetree::{BuildFault, Field, Fill, Grid, Listed, Shape, Zone, evaluate};
 use std::alloc::{AllocError, Global};
 use std::process::Abort;
 use volume_solver::{Diffuse, EdgeRule};
-
-const ROOT: CellKey = CellKey {
-    level: 0,
-    x: [0; 3],
-};
 
 // The box of the root's centre child, where it is to be refined.
 fn zones(alloc: Global, dim: Dim, centre: bool) -> Result<Listed<Zone>, AllocError>
@@ -100,7 +95,7 @@ pub(crate) fn leaves_of(
     alloc: Global,
     grid: &Grid,
 ) -> Result<Vec<CellKey>, AllocError> {
-    let mut open = Vec::from_array(alloc, [ROOT])?;
+    let mut open = Vec::from_array(alloc, [root()])?;
     let mut leaves = Vec::new(alloc);
     for _ in 0..1_000 {
         let Some(next) = open.pop() else {

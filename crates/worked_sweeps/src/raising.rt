@@ -61,8 +61,8 @@ fn compare_raised(
 // Of the grid, how many trees there are, and which one is raised. A vertex is put where the grid stores it and the tree holds
 // a cell round it, and pushed once less than there are such cells.
 #[test]
-fn raising_sweeps_move_what_is_stored(rt: HostRuntime) -> Result<(), AllocError> {
-    let [plane, space] = [grid_of(Dim::Two, 1, true), grid_of(Dim::Three, 1, true)];
+fn raising_sweeps_in_a_plane(rt: HostRuntime) -> Result<(), AllocError> {
+    let plane = grid_of(Dim::Two, 1, true);
     let table = [
         (
             "the root",
@@ -94,6 +94,17 @@ fn raising_sweeps_move_what_is_stored(rt: HostRuntime) -> Result<(), AllocError>
         ),
         ("a range that begins there", plane, (2, 1), [19, 15, 9, 11]),
         ("a range within the centre", plane, (3, 1), [12, 8, 6, 8]),
+    ];
+    for (name, opening, tree, want) in table {
+        compare_raised(&rt, rt.alloc(), name, opening, tree, want)?;
+    }
+    Ok(())
+}
+
+#[test]
+fn raising_sweeps_in_space(rt: HostRuntime) -> Result<(), AllocError> {
+    let space = grid_of(Dim::Three, 1, true);
+    let table = [
         (
             "an empty range of the root",
             grid_of(Dim::Three, 0, false),
@@ -101,7 +112,7 @@ fn raising_sweeps_move_what_is_stored(rt: HostRuntime) -> Result<(), AllocError>
             [0, 0, 0, 0],
         ),
         (
-            "the root in space",
+            "the root",
             grid_of(Dim::Three, 0, false),
             (2, 1),
             [8, 0, 1, 1],
@@ -112,34 +123,18 @@ fn raising_sweeps_move_what_is_stored(rt: HostRuntime) -> Result<(), AllocError>
             (1, 0),
             [72, 152, 27, 28],
         ),
+        ("the refined centre", space, (1, 0), [80, 208, 53, 55]),
         (
-            "the refined centre in space",
-            space,
-            (1, 0),
-            [80, 208, 53, 55],
-        ),
-        (
-            "in space a range that ends inside the centre",
+            "a range that ends inside the centre",
             space,
             (2, 0),
             [58, 90, 26, 28],
         ),
-        (
-            "in space a range that begins there",
-            space,
-            (2, 1),
-            [59, 97, 27, 29],
-        ),
-        (
-            "in space a range within the centre",
-            space,
-            (3, 1),
-            [24, 40, 18, 20],
-        ),
+        ("a range that begins there", space, (2, 1), [59, 97, 27, 29]),
+        ("a range within the centre", space, (3, 1), [24, 40, 18, 20]),
     ];
-    let alloc = rt.alloc();
     for (name, opening, tree, want) in table {
-        compare_raised(&rt, alloc, name, opening, tree, want)?;
+        compare_raised(&rt, rt.alloc(), name, opening, tree, want)?;
     }
     Ok(())
 }

@@ -10,11 +10,16 @@ use solver_api::Solver;
 use spacetree::{BuildFault, Field, Grid};
 use std::alloc::{AllocError, Global};
 use std::process::Abort;
+use std::thread::Threads;
 use step_driver::World;
 use volume_solver::AnySolver;
 
 // The plan of a file.
-pub(crate) fn plan_of(rt: &impl Abort, alloc: Global, file: &str) -> Result<Plan, AllocError>
+pub(crate) fn plan_of<R: Abort + Threads + Sync>(
+    rt: &R,
+    alloc: Global,
+    file: &str,
+) -> Result<Plan, AllocError>
     ensures { IfOk result IsPlan }
 {
     match read_plan(alloc, file.as_bytes()) {
@@ -25,8 +30,8 @@ pub(crate) fn plan_of(rt: &impl Abort, alloc: Global, file: &str) -> Result<Plan
 }
 
 // The grid and the field of a plan.
-pub(crate) fn opened(
-    rt: &impl Abort,
+pub(crate) fn opened<R: Abort + Threads + Sync>(
+    rt: &R,
     alloc: Global,
     plan: &Plan,
 ) -> Result<(Grid, Field), AllocError>
@@ -45,8 +50,8 @@ pub(crate) fn opened(
 }
 
 // A world of so many trees at the opening of a plan.
-pub(crate) fn started(
-    rt: &impl Abort,
+pub(crate) fn started<R: Abort + Threads + Sync>(
+    rt: &R,
     alloc: Global,
     plan: &Plan,
     grid: &Grid,
@@ -58,26 +63,39 @@ pub(crate) fn started(
     requires field { IsFieldOn (parts_in plan.now.solver) grid.now field.now }
 {
     assert!(rt; 1 <= trees && trees <= 64);
-    World::start(alloc, plan.shape.depth, grid, field, plan.solver, trees)
+    World::start(rt, alloc, plan.shape.depth, grid, field, plan.solver, trees)
 }
 
-// Worlds of so many trees each.
-pub(crate) fn all_started(
-    rt: &impl Abort,
+// A world, and how many helpers it takes its steps with.
+#[derive(Drop)]
+pub(crate) struct Manned {
+    pub(crate) world: World<AnySolver>,
+    pub(crate) workers: u32,
+}
+
+// A world for each number of trees and each number of helpers.
+pub(crate) fn all_started<R: Abort + Threads + Sync>(
+    rt: &R,
     alloc: Global,
     plan: &Plan,
     grid: &Grid,
     field: &Field,
     trees: &[u32],
-) -> Result<Vec<World<AnySolver>>, AllocError>
+    workers: &[u32],
+) -> Result<Vec<Manned>, AllocError>
     requires plan { IsPlan plan.now }
     requires grid { IsGrid plan.now.shape.depth grid.now }
     requires field { IsFieldOn (parts_in plan.now.solver) grid.now field.now }
 {
     let mut worlds = Vec::new(alloc);
     for count in trees {
-        let world = started(rt, alloc, plan, grid, field, *count)?;
-        worlds.push(world)?;
+        for helpers in workers {
+            let world = started(rt, alloc, plan, grid, field, *count)?;
+            worlds.push(Manned {
+                world,
+                workers: *helpers,
+            })?;
+        }
     }
     Ok(worlds)
 }

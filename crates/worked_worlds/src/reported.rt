@@ -10,6 +10,7 @@ use peano_keys::Dim;
 use spacetree::EvalFault;
 use std::alloc::{AllocError, Global};
 use std::process::Abort;
+use std::thread::Threads;
 use step_driver::World;
 use vertex_stacks::{Kind, SweepNote};
 use volume_solver::AnySolver;
@@ -64,8 +65,8 @@ const OVERFLOW_NOTES: [Counted; 6] = [
 ];
 
 // A world of so many trees at the opening of a plan.
-fn world_of(
-    rt: &impl Abort,
+fn world_of<R: Abort + Threads + Sync>(
+    rt: &R,
     alloc: Global,
     plan: &Plan,
     trees: u32,
@@ -77,8 +78,8 @@ fn world_of(
 }
 
 // Adds the blocks of a step to a report.
-fn add_blocks(
-    rt: &impl Abort,
+fn add_blocks<R: Abort + Threads + Sync>(
+    rt: &R,
     alloc: Global,
     world: &mut World<AnySolver>,
     dim: Dim,
@@ -86,7 +87,7 @@ fn add_blocks(
     report: &mut Vec<u8>,
 ) -> Result<(), AllocError> {
     assert!(rt; world.is_live());
-    let shown = world.show(alloc)?;
+    let shown = world.show(rt, alloc)?;
     if shows == Shows::All {
         let block = field_text(alloc, dim, shown.step, shown.rows.as_slice())?;
         report.extend_from_slice(block.as_slice())?;
@@ -97,8 +98,8 @@ fn add_blocks(
 }
 
 // The report of a world that takes the steps of a plan.
-fn report_of(
-    rt: &impl Abort,
+fn report_of<R: Abort + Threads + Sync>(
+    rt: &R,
     alloc: Global,
     plan: &Plan,
     world: &mut World<AnySolver>,
@@ -107,7 +108,7 @@ fn report_of(
     let mut report = Vec::new(alloc);
     for step in 0..=plan.steps {
         if step > 0 {
-            advance(rt, alloc, world)?;
+            advance(rt, alloc, world, 1)?;
         }
         if is_printed(plan, step) {
             add_blocks(rt, alloc, world, plan.shape.dim, shows, &mut report)?;
@@ -187,7 +188,12 @@ fn worlds_report_their_trees(rt: HostRuntime) -> Result<(), EvalFault> {
     Ok(())
 }
 
-fn expect_notes(rt: &impl Abort, name: &str, notes: &[SweepNote], want: &[Counted]) {
+fn expect_notes<R: Abort + Threads + Sync>(
+    rt: &R,
+    name: &str,
+    notes: &[SweepNote],
+    want: &[Counted],
+) {
     assert_eq!(rt; notes.len(), want.len(), "{name}");
     for (note, (step, kind, tree, counts)) in notes.iter().zip(want) {
         assert_eq!(rt; (note.step(), note.tree()), (*step, *tree), "{name}");

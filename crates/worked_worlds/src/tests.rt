@@ -1,11 +1,17 @@
-//! Worked files by several numbers of trees, against the plain evaluator.
+//! Worked files by several numbers of trees and of helpers, against the plain evaluator.
 use crate::beside::{compare, compare_last};
 use crate::files::*;
 use peano_keys::CellKey;
 use spacetree::EvalFault;
-use std::alloc::AllocError;
+use std::alloc::{AllocError, Global};
+use std::process::Abort;
+use std::thread::Threads;
 
-const TREES: [u32; 5] = [1, 2, 3, 7, 64];
+const FEW: [u32; 4] = [1, 2, 3, 7];
+
+const MANY: [u32; 1] = [64];
+
+const WORKERS: [u32; 3] = [0, 1, 16];
 
 // A step overflows at a cell of level 1.
 fn overflow(step: u32, x: [u32; 3]) -> Result<(u64, u64), EvalFault> {
@@ -15,39 +21,59 @@ fn overflow(step: u32, x: [u32; 3]) -> Result<(u64, u64), EvalFault> {
     })
 }
 
-// Each file, and how many leaves there are at first and in the end.
-#[test]
-fn worlds_of_worked_files_are_where_the_evaluation_is(rt: HostRuntime) {
-    let table = [
-        ("single cell", SINGLE_CELL, 1, 1),
-        ("nine leaves", NINE_LEAVES, 9, 9),
-        ("floored", FLOORED, 9, 9),
-        ("fixed edge", FIXED_EDGE, 9, 9),
-        ("wind", WIND, 9, 9),
-        ("wave", WAVE, 9, 9),
-        ("refined centre", REFINED_CENTRE, 17, 17),
-        ("space", SPACE, 27, 27),
-        ("three levels", THREE_LEVELS, 25, 25),
-        ("two refined", TWO_REFINED, 25, 25),
-        ("inflow", INFLOW, 17, 57),
-        ("kept child", KEPT_CHILD, 25, 25),
-        ("kept at lo", KEPT_AT_LO, 25, 25),
-        ("not kept", NOT_KEPT, 25, 9),
-        ("flat", FLAT, 81, 81),
-        ("deep", DEEP, 65, 65),
-    ];
-    for (name, file, first, last) in table {
+// Each worked file, and how many leaves there are at first and in the end.
+const WORKED: [(&str, &str, u64, u64); 16] = [
+    ("single cell", SINGLE_CELL, 1, 1),
+    ("nine leaves", NINE_LEAVES, 9, 9),
+    ("floored", FLOORED, 9, 9),
+    ("fixed edge", FIXED_EDGE, 9, 9),
+    ("wind", WIND, 9, 9),
+    ("wave", WAVE, 9, 9),
+    ("refined centre", REFINED_CENTRE, 17, 17),
+    ("space", SPACE, 27, 27),
+    ("three levels", THREE_LEVELS, 25, 25),
+    ("two refined", TWO_REFINED, 25, 25),
+    ("inflow", INFLOW, 17, 57),
+    ("kept child", KEPT_CHILD, 25, 25),
+    ("kept at lo", KEPT_AT_LO, 25, 25),
+    ("not kept", NOT_KEPT, 25, 9),
+    ("flat", FLAT, 81, 81),
+    ("deep", DEEP, 65, 65),
+];
+
+// Worlds of so many trees and with so many helpers are where the evaluation of each worked file is.
+fn expect_worked<R: Abort + Threads + Sync>(rt: &R, alloc: Global, trees: &[u32], workers: &[u32]) {
+    for (name, file, first, last) in WORKED {
         assert_eq!(rt;
-            compare(&rt, rt.alloc(), file, &TREES),
+            compare(rt, alloc, file, trees, workers),
             Ok((first, last)),
             "{name}"
         );
     }
 }
 
-// Each file, and the refusal.
 #[test]
-fn worlds_are_refused_as_the_evaluation_is(rt: HostRuntime) {
+fn worlds_of_few_trees_are_where_the_evaluation_is(rt: HostRuntime) {
+    expect_worked(&rt, rt.alloc(), &FEW, &WORKERS);
+}
+
+#[test]
+fn worlds_of_many_trees_are_where_the_evaluation_is(rt: HostRuntime) {
+    expect_worked(&rt, rt.alloc(), &MANY, &[0, 1]);
+}
+
+#[test]
+fn worlds_of_many_trees_with_many_helpers_are_where_the_evaluation_is(rt: HostRuntime) {
+    expect_worked(&rt, rt.alloc(), &MANY, &[16]);
+}
+
+// Worlds of so many trees and with so many helpers are refused as the evaluation is.
+fn expect_refusals<R: Abort + Threads + Sync>(
+    rt: &R,
+    alloc: Global,
+    trees: &[u32],
+    workers: &[u32],
+) {
     let crowded = Err(EvalFault::Crowded {
         step: 1,
         cells: 215_056,
@@ -63,8 +89,18 @@ fn worlds_are_refused_as_the_evaluation_is(rt: HostRuntime) {
         ("crowded", CROWDED, crowded),
     ];
     for (name, file, want) in table {
-        assert_eq!(rt; compare(&rt, rt.alloc(), file, &TREES), want, "{name}");
+        assert_eq!(rt; compare(rt, alloc, file, trees, workers), want, "{name}");
     }
+}
+
+#[test]
+fn worlds_of_few_trees_are_refused_as_the_evaluation_is(rt: HostRuntime) {
+    expect_refusals(&rt, rt.alloc(), &FEW, &[0, 1]);
+}
+
+#[test]
+fn worlds_of_many_trees_are_refused_as_the_evaluation_is(rt: HostRuntime) {
+    expect_refusals(&rt, rt.alloc(), &MANY, &[0, 1]);
 }
 
 // Files whose worlds are shown in the end alone.
@@ -74,16 +110,23 @@ fn worlds_that_are_shown_last_are_where_the_evaluation_ends(
 ) -> Result<(), AllocError> {
     let alloc = rt.alloc();
     for file in [INFLOW, MEANS, NOT_KEPT, TWO_REFINED, WAVE, OVERFLOWS_LATE] {
-        compare_last(&rt, alloc, file, &TREES)?;
+        compare_last(&rt, alloc, file, &FEW, &[0])?;
+        compare_last(&rt, alloc, file, &MANY, &[0])?;
     }
-    compare_last(&rt, alloc, ADAPTIVE_WAVE, &[2])
+    compare_last(&rt, alloc, ADAPTIVE_WAVE, &[2], &[0])
+}
+
+// A wave of many steps, by several trees and helpers.
+#[test]
+fn a_wave_with_helpers_is_where_the_evaluation_ends(rt: HostRuntime) -> Result<(), AllocError> {
+    compare_last(&rt, rt.alloc(), ADAPTIVE_WAVE, &[4], &[3])
 }
 
 // As many cells as there may be.
 #[test]
 fn worlds_of_the_largest_grid_open_as_the_evaluation_does(rt: HostRuntime) {
     for trees in [1, 2, 7, 64] {
-        let leaves = compare(&rt, rt.alloc(), LARGEST, &[trees]);
+        let leaves = compare(&rt, rt.alloc(), LARGEST, &[trees], &[0]);
         assert_eq!(rt; leaves, Ok((177_777, 177_777)), "{trees} trees");
     }
 }

@@ -11,14 +11,14 @@ pub returns-then-not-corner_coarsens : goal.returns-then-not-corner_coarsens
 returns-then-not-corner_coarsens c = λ g marks centre shows. (
   λ h. absurd (false≢true h),
   λ m.
-      let counted : c.corner_count-count.result ≡ corners (dim_shown c.args.centre.now) = c.corner_count-count.ensures ∙ ap corners c.dim_of.ensures in
+      let counted : c.corner_count-count.result ≡ corners (dim_shown c.args.centre.now) = c.corner_count-count.ensures.value ∙ ap corners c.dim_of.ensures in
       let here : CornerCoarsens c.corner_count-count.result (corner_at c.args.centre.now c.loop-n.n) = only_if_merges g marks c.args.centre.now centre shows c.corner_count-count.result counted m c.loop-n.n (omega arith) in
       c.if-not-corner_coarsens.ensures.1 (subst (CornerCoarsens c.corner_count-count.result) (sym c.corner_in.ensures) here),
 )
 
 pub returns : goal.returns
 returns c = λ g marks centre shows.
-    let counted : c.corner_count-count.result ≡ corners (dim_shown c.args.centre.now) = c.corner_count-count.ensures ∙ ap corners c.dim_of.ensures in (
+    let counted : c.corner_count-count.result ≡ corners (dim_shown c.args.centre.now) = c.corner_count-count.ensures.value ∙ ap corners c.dim_of.ensures in (
       λ h. merges_if g marks c.args.centre.now centre shows c.corner_count-count.result counted (λ n below. c.loop-n.invariant n (omega (arith, below))),
       λ m. refl,
     )

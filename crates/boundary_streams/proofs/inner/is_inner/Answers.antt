@@ -1,5 +1,5 @@
 use Rattle.curve_cuts.specs.Keys.{cuts_of}
-use Rattle.boundary_streams.proofs.WithinCell.{inner_not_shared}
+use Rattle.curve_cuts.proofs.Around.{inner_not_shared}
 use Rattle.boundary_streams.proofs.inner.is_inner.Goals as goal
 
 pub returns-in-Some : goal.returns-in-Some

@@ -1,7 +1,7 @@
 use Rattle.std.proofs.Common.{sym, ◌∙◌}
 use Rattle.std.proofs.lemmas.Bool.{false≢true}
 use Rattle.curve_cuts.specs.Keys.{cuts_of}
-use Rattle.boundary_streams.proofs.WithinCell.{one_shares_nothing}
+use Rattle.curve_cuts.proofs.Around.{one_shares_nothing}
 use Rattle.boundary_streams.proofs.inner.is_shared.Goals as goal
 
 pub returns-then-is_inner : goal.returns-then-is_inner

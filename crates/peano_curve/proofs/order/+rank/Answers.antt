@@ -1,6 +1,6 @@
 use Rattle.std.proofs.Common.{arith, ap}
 use Rattle.peano_curve.proofs.Ranks.{rank_below}
-use Rattle.peano_curve.specs.Order.{children}
+use Rattle.peano_keys.specs.Dim.{children}
 use Rattle.peano_curve.proofs.order.+rank.Goals as goal
 
 pub returns-else-key-eq0-clause-below : goal.returns-else-key-eq0-clause-below

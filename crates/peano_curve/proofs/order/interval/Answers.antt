@@ -1,6 +1,6 @@
 use Rattle.std.proofs.Common.{arith}
 use Rattle.peano_curve.proofs.Ranks.{interval_within, children_pow_12}
-use Rattle.peano_curve.specs.Order.{children}
+use Rattle.peano_keys.specs.Dim.{children}
 use Rattle.peano_curve.proofs.order.interval.Goals as goal
 
 pub overflow_mul-lo : goal.overflow_mul-lo

@@ -4,14 +4,14 @@ use Rattle.peano_run.proofs.Showings.{shown_ok, shown_err}
 use Rattle.peano_run.proofs.course.opened.Goals as goal
 
 pub show-requires-clause-way : goal.show-requires-clause-way
-show-requires-clause-way c =
+show-requires-clause-way g c κs within =
     let w = c.in_ok-begin.ensures in (
       first_moment c.in_ok-begin.field-0.keys c.in-Ok.grid w.field,
       record { at = w.at; solver = w.solver; keys = refl; text = c.new.ensures.items; lines = refl },
     )
 
 pub returns-clause-ok : goal.returns-clause-ok
-returns-clause-ok c =
+returns-clause-ok g c =
     let plan = c.args.plan.now in
     let w = c.in_ok-begin.ensures in
     let keys = c.in_ok-begin.field-0.keys in
@@ -21,7 +21,7 @@ returns-clause-ok c =
     (λ after h. opening_course c.args.request plan keys c.in-Ok.grid w.field after c.in-Ok.ensures.opening c.in-Ok.ensures.small w.begun.field w.begun.cut h)
 
 pub returns-clause-err : goal.returns-clause-err
-returns-clause-err c =
+returns-clause-err g c =
     let plan = c.args.plan.now in
     let w = c.in_ok-begin.ensures in
     let keys = c.in_ok-begin.field-0.keys in

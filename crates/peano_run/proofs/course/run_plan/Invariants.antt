@@ -2,4 +2,4 @@ use Rattle.peano_run.specs.Course.{IsCourse}
 use Rattle.peano_run.proofs.course.run_plan.Given as goal
 
 abbrev pub invariant-loop-step : goal.invariant-loop-step
-invariant-loop-step l = IsCourse l.request l.plan l.step l.course
+invariant-loop-step g l = IsCourse l.request l.plan l.step l.course

@@ -6,14 +6,14 @@ use Rattle.peano_run.proofs.Showings.{shown_ok, shown_err, own_step, serves_plan
 use Rattle.peano_run.proofs.course.stepped.Goals as goal
 
 pub show-requires-clause-way : goal.show-requires-clause-way
-show-requires-clause-way c =
+show-requires-clause-way g c κs within =
     let m = c.requires.course.moment in
     let h = c.requires.course.shown in
     let a = (c.in-Ok.ensures.advanced m.grid m.field (own_step c.args.plan.now c.args.step c.args.course m h.stands)) in
     (after_step m a.grid a.field, (stands_after c.args.request c.args.plan.now c.args.step c.args.course m h c.advance.new.self a c.in-Ok.ensures.solver c.in-Ok.ensures.keys).stands)
 
 pub returns-in-Ok-clause-ok : goal.returns-in-Ok-clause-ok
-returns-in-Ok-clause-ok c =
+returns-in-Ok-clause-ok g c =
     let plan = c.args.plan.now in
     let m = c.requires.course.moment in
     let h = c.requires.course.shown in
@@ -25,7 +25,7 @@ returns-in-Ok-clause-ok c =
     (next_course c.args.request plan c.args.step m a.grid a.field c.requires.course.reached taken after (subst (λ n. ShowsStep c.args.request plan n (after_step m a.grid a.field) after) (add-one c.args.step) shows)))
 
 pub returns-in-Ok-clause-err : goal.returns-in-Ok-clause-err
-returns-in-Ok-clause-err c =
+returns-in-Ok-clause-err g c =
     let plan = c.args.plan.now in
     let m = c.requires.course.moment in
     let h = c.requires.course.shown in
@@ -36,14 +36,14 @@ returns-in-Ok-clause-err c =
     (λ refused fails. next_refused c.args.request plan c.args.step m a.grid a.field c.requires.course.reached taken refused c.requires.more (subst (λ n. ShowFails c.args.request plan n (after_step m a.grid a.field) refused) (add-one c.args.step) fails))
 
 pub returns-in-Err-Overflow-clause-err : goal.returns-in-Err-Overflow-clause-err
-returns-in-Err-Overflow-clause-err c =
+returns-in-Err-Overflow-clause-err g c =
     let m = c.requires.course.moment in
     let h = c.requires.course.shown in
     refused_overflow c.args.request c.args.plan.now c.args.step c.args.course m h c.advance.new.self c.in-Err-Overflow.step c.in-Err-Overflow.key c.with.result (rw c.in-Err-Overflow.field-0-is at c.with.ensures) c.in-Err-Overflow.ensures.keys c.requires.course.reached c.requires.more
     (rw c.in-Err-Overflow.field-0-is at (c.in-Err-Overflow.ensures.advanced m.grid m.field (own_step c.args.plan.now c.args.step c.args.course m h.stands)))
 
 pub returns-in-Err-Crowded-clause-err : goal.returns-in-Err-Crowded-clause-err
-returns-in-Err-Crowded-clause-err c =
+returns-in-Err-Crowded-clause-err g c =
     let m = c.requires.course.moment in
     let h = c.requires.course.shown in
     refused_crowded c.args.request c.args.plan.now c.args.step c.args.course m h c.advance.new.self c.in-Err-Crowded.step c.in-Err-Crowded.cells c.with-in-Err-Crowded.result (rw c.in-Err-Crowded.field-0-is at c.with-in-Err-Crowded.ensures) c.in-Err-Crowded.ensures.keys c.requires.course.reached c.requires.more

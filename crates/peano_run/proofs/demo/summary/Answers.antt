@@ -5,7 +5,7 @@ use Rattle.peano_run.proofs.DemoWorlds.{last_world, ends_at_last, shows_row, sum
 use Rattle.peano_run.proofs.demo.summary.Goals as goal
 
 pub summary_text-requires : goal.summary_text-requires
-summary_text-requires c =
+summary_text-requires g c =
     let plan = c.in_ok-plan.plan in
     let same = c.in_ok-plan.ensures.value in
     let w = c.loop-step.world in
@@ -15,7 +15,7 @@ summary_text-requires c =
     (shows_row c.args.number plan same c.args.trees w led c.show.new.self c.in_ok-shown.shown (c.in_ok-shown.ensures.shown led.grid led.field (last_world c.args.number plan same c.args.trees w led)) c.in_ok-shown.ensures.keys)
 
 pub returns-clause-text : goal.returns-clause-text
-returns-clause-text c =
+returns-clause-text g c =
     let plan = c.in_ok-plan.plan in
     let same = c.in_ok-plan.ensures.value in
     let w = c.loop-step.world in
@@ -25,7 +25,7 @@ returns-clause-text c =
     c.in_ok-text.text.items (rw (c.as_slice.ensures.value, c.cell_count.ensures) at c.in_ok-text.ensures)
 
 pub returns-clause-world : goal.returns-clause-world
-returns-clause-world c =
+returns-clause-world g c =
     let plan = c.in_ok-plan.plan in
     let same = c.in_ok-plan.ensures.value in
     let w = c.loop-step.world in

@@ -66,4 +66,4 @@ pub returns-clause-under : goal.returns-clause-under
 returns-clause-under t c =
     let shape = c.args.shape.now in
     under_from_children shape c.args.key c.loop-n.cells c.loop-n.invariant.top
-    (λ r cell pos up. c.loop-n.invariant.children r cell pos up (omega (arith, number_bound shape.dim r, c.loop-n-test.false, c.fan-n-end.ensures)))
+    (λ r cell pos up. c.loop-n.invariant.children r cell pos up (omega (arith, number_bound shape.dim r, c.loop-n-test.false, c.child_count-n-end.ensures.power)))

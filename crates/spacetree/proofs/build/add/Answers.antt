@@ -11,8 +11,8 @@ pub returns-then-len-from-clause-fault : goal.returns-then-len-from-clause-fault
 returns-then-len-from-clause-fault c =
     let shape = c.args.shape.now in
     let refined : Cells = c.insert.new.self in
-    let full : 199999 / c.fan.result < set.len refined = omega (arith, c.if-len-from.true, c.len.ensures, ap (λ f. 199999 / f) c.from.ensures) in
-    let many = too_many shape.dim (set.len refined) c.fan.result c.fan.ensures full in
+    let full : 199999 / c.child_count.result < set.len refined = omega (arith, c.if-len-from.true, c.len.ensures, ap (λ f. 199999 / f) c.from.ensures) in
+    let many = too_many shape.dim (set.len refined) c.child_count.result c.child_count.ensures.power full in
     let opened : HasOpened shape refined = subst (HasOpened shape) (sym c.in_ok-insert.ensures.ok) (opened_by_insert shape c.args.cells.now c.args.key c.requires.within c.requires.opened) in
     record { refined = refined; opened = opened; many = many; grids = no_small_grid shape refined opened many }
 

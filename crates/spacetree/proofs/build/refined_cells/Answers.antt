@@ -1,8 +1,9 @@
-use Rattle.std.proofs.Common.{arith, ap, ◌∙◌, sym}
+use Rattle.std.proofs.Common.{arith, ap, ◌∙◌, sym, subst}
 use Rattle.std.proofs.lemmas.Bool.{false≢true}
 use Rattle.std.specs.FinSet as set
 use Rattle.peano_keys.specs.Cell.{key_cmp}
 use Rattle.spacetree.specs.Counts.{cells_for}
+use Rattle.spacetree.specs.Build.{IsUnder}
 use Rattle.spacetree.proofs.Descents.{under_root}
 use Rattle.spacetree.proofs.build.refined_cells.Goals as goal
 
@@ -15,4 +16,4 @@ add_under-requires-clause-fits c =
     omega (arith, none)
 
 pub returns-clause-all : goal.returns-clause-all
-returns-clause-all c q opened = c.in_ok-add_under.ensures.under q opened (under_root c.args.shape.now.dim q opened.cell)
+returns-clause-all c q opened = c.in_ok-add_under.ensures.under q opened (subst (λ top. IsUnder top q) (sym c.root.ensures) (under_root c.args.shape.now.dim q opened.cell))

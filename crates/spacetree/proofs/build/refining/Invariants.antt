@@ -1,5 +1,5 @@
 use Rattle.std.proofs.Common.{◌≡◌, take, filter}
-use Rattle.spacetree.specs.Build.{zone_refines}
+use Rattle.spacetree.specs.Opening.{zone_refines}
 use Rattle.spacetree.proofs.build.refining.Given as goal
 
 abbrev pub invariant-loop-zone : goal.invariant-loop-zone

@@ -30,6 +30,6 @@ returns c = (
       let child = child_of c.args.key k in
       c.loop-n.invariant child (child_cell c.args.dim c.args.key k c.requires.cell c.requires.room digits) (omega arith)
       (parent_of_child c.args.key k c.requires.cell.shape digits.first digits.second (third_digit c.args.dim k digits))
-      (omega (arith, number_bound c.args.dim child, c.fan-n-end.ensures, c.loop-n-test.false)),
+      (omega (arith, number_bound c.args.dim child, c.child_count-n-end.ensures.power, c.loop-n-test.false)),
   λ _. refl,
 )

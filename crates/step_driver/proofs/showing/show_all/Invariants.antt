@@ -4,9 +4,9 @@ use Rattle.peano_keys.specs.Field.{States}
 use Rattle.peano_curve.specs.declared.order.Direction.{Direction}
 use Rattle.curve_cuts.specs.Keys.{cuts_of}
 use Rattle.step_driver.specs.Computing.{AllStandOn}
-use Rattle.step_driver.specs.Showing.{AreShown}
+use Rattle.step_driver.specs.Showing.{GatheredFirst}
 use Rattle.step_driver.proofs.showing.show_all.Given as goal
 
-abbrev pub invariant-loop-t : goal.invariant-loop-t
-invariant-loop-t l = (parts : ℕ) (dir : Direction) (g : Spacetree) (f : States) → AllStandOn (cuts_of l.keys) parts dir g f l.initial.stores →
-    AreShown (cuts_of l.keys) parts dir g f l.step l.t l.initial.stores l.stores l.initial.notes.items l.notes.items (record { step = l.step; rows = l.rows; traffic = l.traffic })
+abbrev pub invariant-loop-tree : goal.invariant-loop-tree
+invariant-loop-tree g l = (parts : ℕ) (dir : Direction) (grid : Spacetree) (f : States) → AllStandOn (cuts_of l.keys) parts dir grid f l.fn.stores.items →
+    GatheredFirst (cuts_of l.keys) grid f l.step l.tree-index l.initial.notes.items l.notes.items l.rows.items l.traffic.items

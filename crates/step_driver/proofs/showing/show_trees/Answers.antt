@@ -6,27 +6,27 @@ use Rattle.step_driver.proofs.Began.{stand_on, on_err}
 use Rattle.step_driver.proofs.Rests.{all_rows, still_at, told}
 use Rattle.step_driver.proofs.showing.show_trees.Goals as goal
 
-pub show_all-requires : goal.show_all-requires
-show_all-requires c =
+pub show_all-requires-after_bounds : goal.show_all-requires-after_bounds
+show_all-requires-after_bounds g c κs within =
     let h = c.requires in
     let at = h.4 in
-    (h.0, (at.dir, h.2, h.3, stand_on h.0 (cuts_of c.args.keys.now) c.args.stores.now c.args.notes.now.items h.1 h.2 h.3 at))
+    (h.0, (at.dir, h.2, h.3, stand_on h.0 (cuts_of c.args.keys.now) c.args.stores.items c.args.notes.now.items h.1 h.2 h.3 at))
 
-pub returns-in_err-shown-clause-stopped : goal.returns-in_err-shown-clause-stopped
-returns-in_err-shown-clause-stopped c = on_err _ c.from_residual.result
-    (λ parts cells g f at. c.in_err-shown.ensures.stopped parts at.dir g f (stand_on parts (cuts_of c.args.keys.now) c.args.stores.now c.args.notes.now.items cells g f at))
+pub returns-in_err-trees-clause-stopped : goal.returns-in_err-trees-clause-stopped
+returns-in_err-trees-clause-stopped g c = on_err _ c.from_residual.result
+    (λ parts cells g f at. c.in_err-trees.ensures.stopped parts at.dir g f (stand_on parts (cuts_of c.args.keys.now) c.args.stores.items c.args.notes.now.items cells g f at))
 
 pub returns-clause-shown : goal.returns-clause-shown
-returns-clause-shown c = λ parts cells g f at.
+returns-clause-shown g c = λ parts cells g f at.
     let k = cuts_of c.args.keys.now in
-    let gathered = c.in_ok-shown.shown.rows in
-    let shown = c.in_ok-shown.ensures.shown parts at.dir g f (stand_on parts k c.args.stores.now c.args.notes.now.items cells g f at) in
-    let sorted = c.put_in_order.ensures.sorted f (subst (AreRowsOf f) (sym c.as_mut_slice.ensures.value) (all_rows k g f gathered.items at.fits at.field.leaves shown.rows)) in
+    let gathered = c.in_ok-trees.trees.shown.rows in
+    let shown = c.in_ok-trees.ensures.shown parts at.dir g f (stand_on parts k c.args.stores.items c.args.notes.now.items cells g f at) in
+    let sorted = c.put_in_order.ensures.sorted f (subst (AreRowsOf f) (sym c.as_mut_slice.ensures.value) (all_rows k g f gathered.items at.fits at.field.leaves shown.gathered.rows)) in
     let whole = written_back gathered.items c.put_in_order.new.rows gathered.len gathered.ok.0 (c.put_in_order.ensures.len ∙ ap length c.as_mut_slice.ensures.value) in
     record {
-      step_is = c.in_ok-shown.ensures.step;
+      step_is = c.in_ok-trees.ensures.step;
       rows = sym whole ∙ sorted;
-      traffic = told parts k g f c.args.step cells c.args.stores.now c.show_all.new.stores c.args.notes.now.items c.show_all.new.notes.items c.in_ok-shown.shown c.tale_of_notes_grows.ensures at shown;
-      at = still_at parts k g f c.args.step cells c.args.stores.now c.show_all.new.stores c.args.notes.now.items c.show_all.new.notes.items c.in_ok-shown.shown c.tale_of_notes_grows.ensures at shown;
-      noted = shown.noted;
+      traffic = told parts k g f c.args.step cells c.args.stores.items c.in_ok-trees.trees.stores.items c.args.notes.now.items c.show_all.new.notes.items c.in_ok-trees.trees.shown c.tale_of_notes_grows.ensures at shown;
+      at = still_at parts k g f c.args.step cells c.args.stores.items c.in_ok-trees.trees.stores.items c.args.notes.now.items c.show_all.new.notes.items c.in_ok-trees.trees.shown c.tale_of_notes_grows.ensures at shown;
+      noted = shown.gathered.noted;
     }

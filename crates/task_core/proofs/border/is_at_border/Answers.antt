@@ -8,7 +8,7 @@ use Rattle.task_core.proofs.border.is_at_border.Goals as goal
 
 pub returns-then-is_broken : goal.returns-then-is_broken
 returns-then-is_broken c =
-    let below : c.loop-n.n < corners c.args.grid.now.dim = subst (λ d. c.loop-n.n < corners d) c.dim.ensures (omega (arith, c.loop-n-test.true, c.corner_count-n-end.ensures)) in
+    let below : c.loop-n.n < corners c.args.grid.now.dim = subst (λ d. c.loop-n.n < corners d) c.dim.ensures (omega (arith, c.loop-n-test.true, c.corner_count-n-end.ensures.value)) in
     (λ _. broken_is (cuts_of c.args.keys.now) c.args.grid.now c.args.tree c.args.vertex c.requires.corner c.loop-n.n c.requires.vertex below (c.is_broken.ensures.0 c.if-is_broken.true), λ _. refl)
 
 pub loop-n-preserved : goal.loop-n-preserved
@@ -16,7 +16,7 @@ loop-n-preserved c = below_more (λ m. ¬ IsBroken c.args.grid.now c.args.vertex
 
 pub returns : goal.returns
 returns c =
-    let end : corners c.args.grid.now.dim ≤ c.loop-n.n = subst (λ d. corners d ≤ c.loop-n.n) c.dim.ensures (omega (arith, c.loop-n-test.false, c.corner_count-n-end.ensures)) in (
+    let end : corners c.args.grid.now.dim ≤ c.loop-n.n = subst (λ d. corners d ≤ c.loop-n.n) c.dim.ensures (omega (arith, c.loop-n-test.false, c.corner_count-n-end.ensures.value)) in (
       λ h. absurd (false≢true h),
       λ border. absurd (none_broken (cuts_of c.args.keys.now) c.args.grid.now c.args.tree c.args.vertex c.requires.corner (λ shared. false≢true (sym c.if-is_shared.false ∙ c.is_shared.ensures.1 shared)) (λ m below. c.loop-n.invariant m (omega (arith, below, end))) border),
     )

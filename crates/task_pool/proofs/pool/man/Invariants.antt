@@ -10,10 +10,10 @@ invariant-loop-at g l = record {
   within : l.at ≤ vec_len l.helpers;
   len : vec_len l.helpers ≡ vec_len l.initial.helpers;
   left : vec_len l.seats + l.at ≡ vec_len l.initial.helpers + 1;
-  first : (d : DeskSeat g.row.S.Denot g.S.Solver) → slice_index_or l.seats.items 0 d ≡ slice_index_or l.initial.seats.items 0 d;
-  seats : (i : ℕ) (x : Tree g.row.S.Denot g.S.Solver) (d : DeskSeat g.row.S.Denot g.S.Solver) → i < vec_len l.seats → IsFreshSeat (slice_index_or l.trees l.tree x) (slice_index_or l.seats.items i d);
-  placed : (j : ℕ) (h : Helper g.row.S.Denot g.S.Solver) → j < l.at → IsPlaced l.trees (l.tree + 1) (slice_index_or l.helpers.items j h);
-  others : (j : ℕ) (h : Helper g.row.S.Denot g.S.Solver) → l.at ≤ j → j < vec_len l.helpers → IsPlaced l.trees l.tree (slice_index_or l.helpers.items j h);
+  first : (d : DeskSeat g.row.S.Denot g.S.Updates) → slice_index_or l.seats.items 0 d ≡ slice_index_or l.initial.seats.items 0 d;
+  seats : (i : ℕ) (x : Tree g.row.S.Denot g.S.Updates) (d : DeskSeat g.row.S.Denot g.S.Updates) → i < vec_len l.seats → IsFreshSeat (slice_index_or l.trees l.tree x) (slice_index_or l.seats.items i d);
+  placed : (j : ℕ) (h : Helper g.row.S.Denot g.S.Updates) → j < l.at → IsPlaced l.trees (l.tree + 1) (slice_index_or l.helpers.items j h);
+  others : (j : ℕ) (h : Helper g.row.S.Denot g.S.Updates) → l.at ≤ j → j < vec_len l.helpers → IsPlaced l.trees l.tree (slice_index_or l.helpers.items j h);
 }
 
 abbrev pub decreases-loop-at : goal.decreases-loop-at

@@ -2,8 +2,8 @@ use Rattle.std.proofs.Common.{◌≡◌, ◌+◌, ◌<◌, ◌≤◌, true, ◌�
 use Rattle.std.proofs.lemmas.Bool.{false≢true}
 use Rattle.std.specs.Prelude.{IsOk}
 use Rattle.std.specs.Option.{option_map}
+use Rattle.peano_keys.specs.Dim.{children}
 use Rattle.peano_keys.specs.Cell.{IsCell}
-use Rattle.peano_curve.specs.Order.{children}
 use Rattle.sweep_visits.specs.Visits.{leave}
 use Rattle.sweep_visits.specs.Plan.{is_visited}
 use Rattle.tree_automaton.specs.declared.decide.Course.{Course}

@@ -22,8 +22,8 @@ compare_exchange-found-requires g c =
       rw sized.0 (let b = c.requires.task in omega arith),
       publishes_as c.args.self.now.table.shared.key c.exchange-before.new.seat.id c.args.k c.args.self.now.size c.args.self.now.table.shared.table_id.slots c.args.seat.now.number c.code-taken.result c.args.seat.now.seat.me.0 c.exchange-before.new.seat.me.0 c.args.done c.exchange-before.new.seat.me.1 (rest c.load.new.seat.me.1)
           c.requires.task sized.2 sized.1 c.requires.done.0 c.requires.done.1 c.args.seat.now.numbered c.code-taken.ensures
-          (ap (λ (m : Mine g.row.S.Denot g.S.Solver). m.0) ex.3 ∙ load.2.0)
-          (ap (λ (m : Mine g.row.S.Denot g.S.Solver). m.1) ex.3),
+          (ap (λ (m : Mine g.row.S.Denot g.S.Updates). m.0) ex.3 ∙ load.2.0)
+          (ap (λ (m : Mine g.row.S.Denot g.S.Updates). m.1) ex.3),
     )
 
 pub exchange-late-requires : goal.exchange-late-requires
@@ -32,7 +32,7 @@ exchange-late-requires g c =
     let ex = c.exchange-before.ensures in
     let ce = c.compare_exchange-found.ensures in
     let kept : c.compare_exchange-found.new.seat.me.1 ≡ c.exchange-before.new.seat.me.1 = late_slots c.compare_exchange-found.result c.code-taken.result (c.args.k + 1 - 1) c.exchange-before.new.seat.me c.compare_exchange-found.new.seat.me c.if-found-taken.false ce.2 in
-    let carried : c.compare_exchange-found.new.seat.me.1 ≡ (c.args.k, Some c.args.done) ∷ rest c.load.new.seat.me.1 = kept ∙ ap (λ (m : Mine g.row.S.Denot g.S.Solver). m.1) ex.3 in (
+    let carried : c.compare_exchange-found.new.seat.me.1 ≡ (c.args.k, Some c.args.done) ∷ rest c.load.new.seat.me.1 = kept ∙ ap (λ (m : Mine g.row.S.Denot g.S.Updates). m.1) ex.3 in (
       ce.0 ∙ ex.0 ∙ load.0 ∙ c.requires.seat.table,
       (Some c.args.done, carried ∙ ap (λ l. (c.args.k, Some c.args.done) ∷ rest l) (sym carried)),
     )

@@ -1,7 +1,8 @@
 use Rattle.std.proofs.Common.{◌≡◌, ◌+◌, ◌<◌, refl, sym, subst, ◌∙◌, arith}
 use Rattle.std.proofs.lemmas.Bool.{false≢true}
 use Rattle.std.proofs.lemmas.Result.{on_ok_weaker}
-use Rattle.peano_curve.specs.Order.{children, place_along}
+use Rattle.peano_keys.specs.Dim.{children}
+use Rattle.peano_curve.specs.Order.{place_along}
 use Rattle.sweep_visits.specs.Visits.{enter, leave}
 use Rattle.task_core.specs.declared.stop.Stop.TheVariants.{Pass}
 use Rattle.task_core.specs.Work.{IsServedStop}

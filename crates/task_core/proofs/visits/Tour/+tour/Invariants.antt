@@ -1,5 +1,6 @@
 use Rattle.std.proofs.Common.{◌+◌, ◌-◌, ◌*◌}
-use Rattle.peano_curve.specs.Order.{children, place_along}
+use Rattle.peano_keys.specs.Dim.{children}
+use Rattle.peano_curve.specs.Order.{place_along}
 use Rattle.task_core.proofs.visits.Tour.+tour.Given as goal
 
 abbrev pub decreases-add_cell : goal.decreases-add_cell

@@ -15,10 +15,10 @@ compute-published-requires-clause-post g c κs within =
     let before = (view c.args.self.now.pass).taken in
     let told = c.in-Some.ensures in
     record {
-      seat = subst (λ (s : DeskSeat g.row.S.Denot g.S.Solver). IsSeatOf c.args.at.now.desk s) (sym told.seat) old.seat;
+      seat = subst (λ (s : DeskSeat g.row.S.Denot g.S.Updates). IsSeatOf c.args.at.now.desk s) (sym told.seat) old.seat;
       pass = told.pass;
       claimed = λ k e. subst (λ (l : List Job). 0 < count (is_task c.args.tree k) l) (sym told.taken)
-          (taken_before (is_task c.args.tree k) job before (old.claimed k (subst (λ (s : DeskSeat g.row.S.Denot g.S.Solver). has (view_of s).claimed k ≡ true) told.seat e)));
+          (taken_before (is_task c.args.tree k) job before (old.claimed k (subst (λ (s : DeskSeat g.row.S.Denot g.S.Updates). has (view_of s).claimed k ≡ true) told.seat e)));
     }
 
 pub compute-published-requires-clause-taken : goal.compute-published-requires-clause-taken

@@ -6,7 +6,7 @@ use Rattle.task_pool.proofs.Built.{placed_on, built_more, popped, snoc_last}
 use Rattle.task_pool.proofs.pool.Building.add_tree.Goals as goal
 
 pub man-requires-clause-seats : goal.man-requires-clause-seats
-man-requires-clause-seats g c κs within =
+man-requires-clause-seats g c =
     let old = c.args.self.now in
     let is = c.deref.ensures.value ∙ c.in_ok-push.ensures.items in
     let tree : c.len-tree.result ≡ vec_len old.trees = c.len-tree.ensures in
@@ -17,7 +17,7 @@ man-requires-clause-seats g c κs within =
     subst (λ t. IsFreshSeat t (get_or c.in_ok-desk.seats.items i d)) (sym (ap (λ l. get_or l c.len-tree.result x) is ∙ snoc_last old.trees.items _ x c.len-tree.result (sym old.trees.ok.0 ∙ sym tree))) (told.0, ap (λ (v : View g.row.S.Denot). v.claimed) told.1)
 
 pub man-requires-clause-placed : goal.man-requires-clause-placed
-man-requires-clause-placed g c κs within =
+man-requires-clause-placed g c =
     let built = c.requires.built in
     let old = c.args.self.now in
     let is = c.deref.ensures.value ∙ c.in_ok-push.ensures.items in
