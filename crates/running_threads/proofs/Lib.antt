@@ -1,0 +1,8 @@
+mod Leaves
+mod Lists
+mod Trees
+mod Cores
+mod Runs
+mod Ends
+mod Opened
+mod Hands
