@@ -5,7 +5,8 @@ A block that begins with '$ bin/peano < examples/NAME.toml' must go on with exam
 the '<' with examples/NAME.words.out, where the words must be those of examples/NAME.words; the gate compares both with the
 proved program's reports (crates/worked_examples). A block that begins with '$ tools/..' must go on with what that tool
 writes, and each picture docs/pictures/NAME_STEP.svg must be the one that tools/draw_field.py --svg draws. Each path under
-examples/, tools/, docs/, bin/ and crates/ must be there, and each link must lead somewhere.
+examples/, tools/, docs/, bin/ and crates/ must be there, and each link must lead somewhere. The tables of docs/MODEL.md must
+be those that tools/list_definitions.py makes of the definitions.
 """
 import glob
 import os
@@ -95,6 +96,7 @@ def main():
     os.chdir(os.path.join(os.path.dirname(os.path.abspath(__file__)), ".."))
     faults = [f"{name}: {fault}" for name in ["README.md", *sorted(glob.glob("docs/*.md"))] for fault in faults_of(name)]
     faults += old_pictures()
+    faults += ["docs/MODEL.md is not what the definitions say"] if subprocess.run(["tools/list_definitions.py", "--check"]).returncode else []
     faults += ["examples/ is not what the gate runs"] if subprocess.run(["tools/copy_examples.sh", "--check"]).returncode else []
     for fault in faults:
         print(f"test_documents: {fault}", file=sys.stderr)

@@ -1,5 +1,5 @@
 -- Where one tree holds everything, its raised store is at rest.
-use Rattle.std.proofs.Common.{◌≡◌, ℕ, ◌<◌, Some, ap, sym, ◌∙◌, subst, arith}
+use Rattle.std.proofs.Common.{◌≡◌, ℕ, ◌<◌, Some, ap, ◌∙◌, subst, arith}
 use Rattle.peano_keys.specs.Vertex.{adjacent_of}
 use Rattle.peano_keys.specs.Grid.{Spacetree}
 use Rattle.peano_keys.specs.Field.{States, value_of}

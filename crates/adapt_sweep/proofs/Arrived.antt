@@ -1,5 +1,5 @@
 -- The slot of a cell at a corner, as the cell's visit finds it: nothing has changed it in the sweep before.
-use Rattle.std.proofs.Common.{◌≡◌, ℕ, ◌<◌, true, List, ◌++◌, ◌∷◌, Option, Some, None, map, refl, ap, sym, ◌∙◌, subst, append_assoc}
+use Rattle.std.proofs.Common.{◌≡◌, ℕ, ◌<◌, true, List, ◌++◌, ◌∷◌, Option, Some, None, map, ap, sym, ◌∙◌, subst, append_assoc}
 use Rattle.peano_keys.specs.declared.cell.CellKey.{CellKey}
 use Rattle.peano_keys.specs.declared.vertex.VertexKey.{VertexKey}
 use Rattle.std.specs.Prelude.{MatchOption}
@@ -12,9 +12,8 @@ use Rattle.peano_keys.proofs.Positions.{cell_stands_in_slot}
 use Rattle.stack_law.specs.Stack.{AreDistinct}
 use Rattle.peano_curve.specs.Run.{CellLater, Follows, IsLast}
 use Rattle.peano_records.specs.declared.stored.Stored.{Stored}
-use Rattle.peano_records.specs.declared.view.CellView.{CellView}
 use Rattle.peano_records.specs.declared.view.Corner.TheVariants.{Vertex}
-use Rattle.peano_records.specs.Slots.{VertexRecord, slot_at}
+use Rattle.peano_records.specs.Slots.{slot_at}
 use Rattle.peano_records.specs.Tells.{corner_at}
 use Rattle.peano_records.proofs.Intents.{below_eight}
 use Rattle.vertex_stacks.specs.declared.tale.Tale.{Tale}
@@ -25,7 +24,7 @@ use Rattle.sweep_visits.specs.Moves.{same_vertex}
 use Rattle.sweep_visits.proofs.Next.{next_is_of_the_run}
 use Rattle.step_phases.proofs.Homes.{slot_below}
 use Rattle.tree_automaton.specs.Sweep.{TreeSweep}
-use Rattle.tree_automaton.specs.Story.{Call, Story, IsAmong, IsOnLane, WasLeft, with_calls}
+use Rattle.tree_automaton.specs.Story.{Call, Story, IsAmong, WasLeft, with_calls}
 use Rattle.tree_automaton.specs.Visits.{ComesFrom, CornerTaken}
 use Rattle.tree_automaton.specs.Sweeps.{AllCallsFit, CallFits, IsEntered, begun, key_of, visit_of}
 use Rattle.tree_automaton.proofs.Journeys.{fits_at}

@@ -1,5 +1,5 @@
 -- What an adapting visitor's two calls at a cell make of a record round it.
-use Rattle.std.proofs.Common.{◌≡◌, ◌⊎◌, ℕ, ◌<◌, ◌≤◌, List, [], Option, Some, None, length, refl, ap, sym, ◌∙◌, subst, inl, inr, ⊎_elim, arith}
+use Rattle.std.proofs.Common.{◌≡◌, ◌⊎◌, ℕ, ◌<◌, List, [], Some, length, refl, ap, sym, ◌∙◌, subst, inl, inr, ⊎_elim, arith}
 use Rattle.std.specs.Prelude.{IfSome}
 use Rattle.std.proofs.lemmas.List.{get_or-set_same}
 use Rattle.peano_keys.specs.declared.dim.Dim.{Dim}
@@ -15,7 +15,7 @@ use Rattle.peano_records.specs.declared.stored.Stored.{Stored}
 use Rattle.peano_records.specs.declared.view.Corner.{Corner}
 use Rattle.peano_records.specs.declared.view.Corner.TheVariants.{Vertex, Hanging, Beyond}
 use Rattle.peano_records.specs.declared.view.CellView.{CellView}
-use Rattle.peano_records.specs.Slots.{blank, fresh, slot_at, with_slot}
+use Rattle.peano_records.specs.Slots.{blank, slot_at, with_slot}
 use Rattle.peano_records.specs.AtRest.{status_of}
 use Rattle.peano_records.specs.Tells.{corner_at}
 use Rattle.peano_records.proofs.Intents.{below_eight}
@@ -27,9 +27,9 @@ use Rattle.sweep_streams.proofs.Round.{position_is}
 use Rattle.step_phases.proofs.Homes.{slot_below}
 use Rattle.tree_automaton.specs.Sweep.{TreeSweep}
 use Rattle.tree_automaton.specs.Promises.{HasKey, IsViewIn}
-use Rattle.tree_automaton.specs.Story.{Call, Story, IsAmong, with_calls}
+use Rattle.tree_automaton.specs.Story.{Call, Story, IsAmong}
 use Rattle.tree_automaton.specs.Sweeps.{AllCallsFit, Chain, Stands, begun}
-use Rattle.tree_automaton.specs.Views.{CornerGiven, ViewGiven, VertexFits, IsMade}
+use Rattle.tree_automaton.specs.Views.{CornerGiven, ViewGiven}
 use Rattle.tree_automaton.specs.Journeys.{CellChanged}
 use Rattle.tree_automaton.proofs.Collects.{each_call}
 use Rattle.swept_slots.specs.Changes.{ChangesOneCell}

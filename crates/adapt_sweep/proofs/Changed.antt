@@ -1,15 +1,14 @@
 -- What the calls of an adapting visitor change in the slots of each cell.
-use Rattle.std.proofs.Common.{◌≡◌, ◌⊎◌, ℕ, ◌<◌, ◌≤◌, Bool, true, false, List, Option, Some, None, if◌then◌else◌, map, refl, ap, sym, ◌∙◌, subst, inl, inr, ⊎_elim}
+use Rattle.std.proofs.Common.{◌≡◌, ◌⊎◌, ℕ, ◌<◌, ◌≤◌, Bool, true, false, List, Some, if◌then◌else◌, map, refl, ap, sym, ◌∙◌, subst, inl, inr, ⊎_elim}
 use Rattle.std.specs.Prelude.{◌||◌}
 use Rattle.std.proofs.lemmas.Bool.{false≢true}
 use Rattle.peano_records.specs.Tells.{slot_tells}
 use Rattle.peano_keys.specs.declared.dim.Dim.{Dim}
 use Rattle.peano_keys.specs.declared.cell.CellKey.{CellKey}
-use Rattle.peano_keys.specs.declared.vertex.VertexKey.{VertexKey}
 use Rattle.peano_keys.specs.Dim.{corners}
 use Rattle.peano_keys.specs.Cell.{IsCell, parent_of}
 use Rattle.peano_keys.specs.Vertex.{slot_from}
-use Rattle.peano_keys.specs.Grid.{Spacetree, has_cell, is_refined}
+use Rattle.peano_keys.specs.Grid.{has_cell, is_refined}
 use Rattle.stack_law.specs.Stack.{AreDistinct}
 use Rattle.peano_records.specs.declared.slot.Slot.{Slot}
 use Rattle.peano_records.specs.declared.stored.Stored.{Stored}
@@ -24,8 +23,8 @@ use Rattle.sweep_visits.specs.Visits.{enter, visits_of}
 use Rattle.sweep_visits.specs.Moves.{same_vertex}
 use Rattle.sweep_streams.specs.Records.{IsHeldCell, in_grids}
 use Rattle.step_phases.specs.Stores.{home_slot}
-use Rattle.step_phases.specs.Change.{Change, carrier}
-use Rattle.step_phases.specs.Sweeps.{AdaptChanges, refined_in}
+use Rattle.step_phases.specs.Change.{Change}
+use Rattle.step_phases.specs.Sweeps.{AdaptChanges}
 use Rattle.step_phases.proofs.Grids.{level_in, or_true}
 use Rattle.tree_automaton.specs.Sweep.{TreeSweep}
 use Rattle.tree_automaton.specs.Story.{Call, IsAmong}

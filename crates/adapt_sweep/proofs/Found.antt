@@ -1,13 +1,10 @@
 -- What an adapting visitor finds at the home corners of cells: what stood there before the sweep.
-use Rattle.std.proofs.Common.{◌≡◌, ◌⊎◌, ℕ, ◌<◌, ◌==◌, Bool, true, false, List, ◌∷◌, ◌++◌, Option, Some, None, if◌then◌else◌, map, length, refl, ap, sym, ◌∙◌, subst, inl, inr, ⊎_elim, arith, append_assoc}
-use Rattle.std.specs.Prelude.{◌||◌}
+use Rattle.std.proofs.Common.{◌≡◌, ℕ, ◌<◌, ◌==◌, Bool, true, false, List, ◌∷◌, ◌++◌, Some, None, map, length, refl, ap, sym, ◌∙◌, subst, inl, inr, arith, append_assoc}
 use Rattle.std.proofs.lemmas.List.{get_or-set_same}
 use Rattle.std.proofs.lemmas.Bool.{false≢true}
 use Rattle.std.proofs.lemmas.Bool.Decides.{nat_tests}
 use Rattle.peano_keys.specs.declared.dim.Dim.{Dim}
 use Rattle.peano_keys.specs.declared.cell.CellKey.{CellKey}
-use Rattle.peano_keys.specs.declared.vertex.VertexKey.{VertexKey}
-use Rattle.peano_keys.specs.Dim.{corners}
 use Rattle.peano_keys.specs.Cell.{IsCell, parent_of}
 use Rattle.peano_keys.specs.Vertex.{IsVertex, corner_of, home_of, slot_from}
 use Rattle.peano_keys.specs.Grid.{Spacetree, IsStored, has_cell, is_refined}
@@ -19,26 +16,24 @@ use Rattle.peano_records.specs.declared.stored.Stored.{Stored}
 use Rattle.peano_records.specs.declared.view.Corner.{Corner}
 use Rattle.peano_records.specs.declared.view.Corner.TheVariants.{Vertex, Hanging, Beyond}
 use Rattle.peano_records.specs.declared.view.CellView.{CellView}
-use Rattle.peano_records.specs.Slots.{blank, slot_at, with_slot}
+use Rattle.peano_records.specs.Slots.{blank, slot_at}
 use Rattle.peano_records.specs.AtRest.{status_of}
 use Rattle.peano_records.specs.Tells.{corner_at, slot_tells}
 use Rattle.peano_records.proofs.Intents.{below_eight}
 use Rattle.hanging_nodes.specs.Views.{AreOldAndNew, IsStoredBefore}
 use Rattle.hanging_nodes.proofs.OneGrid.{there_by_parent}
 use Rattle.hanging_nodes.proofs.TwoGrids.{next_had}
-use Rattle.curve_cuts.specs.Cuts.{Cuts, IsCutGrid}
+use Rattle.curve_cuts.specs.Cuts.{Cuts}
 use Rattle.vertex_stacks.specs.declared.tale.Tale.{Tale}
 use Rattle.sweep_visits.specs.Plan.{IsSweepPlan, dim_of, is_stored_in}
-use Rattle.sweep_visits.specs.Visits.{Visit, enter, visits_of}
+use Rattle.sweep_visits.specs.Visits.{enter, visits_of}
 use Rattle.sweep_visits.specs.Moves.{same_vertex}
 use Rattle.sweep_visits.proofs.Tests.{stored_told}
 use Rattle.step_phases.specs.Stores.{Store, home_slot}
-use Rattle.step_phases.specs.Change.{Change, carrier}
-use Rattle.step_phases.specs.Sweeps.{refined_in}
 use Rattle.step_phases.proofs.Homes.{corner_is_vertex, home_below, slot_below}
 use Rattle.tree_automaton.specs.Sweep.{TreeSweep, flag_in}
 use Rattle.tree_automaton.specs.Story.{Call, Story, IsAmong, with_calls}
-use Rattle.tree_automaton.specs.Sweeps.{AllCallsFit, CallFits, CarriesOfParent, IsEntered, WasEntered, begun, key_of, visit_of}
+use Rattle.tree_automaton.specs.Sweeps.{AllCallsFit, CallFits, IsEntered, WasEntered, begun, key_of, visit_of}
 use Rattle.tree_automaton.specs.Views.{CornerGiven, ViewGiven, value_at_home, value_in}
 use Rattle.tree_automaton.proofs.Journeys.{fits_at}
 use Rattle.swept_slots.specs.Changes.{EachVisitChanges}

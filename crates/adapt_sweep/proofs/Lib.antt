@@ -11,3 +11,4 @@ pub mod Found
 pub mod Changed
 pub mod Trees
 pub mod Alone
+pub mod Uniform

@@ -1,5 +1,5 @@
 -- A tree's raising sweep, from its empty store to the raised one.
-use Rattle.std.proofs.Common.{◌≡◌, ℕ, ◌<◌, List, [], ◌∷◌, ◌++◌, Some, None, refl, ap, sym, ◌∙◌, subst, inl, inr, ⊎_elim}
+use Rattle.std.proofs.Common.{◌≡◌, ℕ, List, [], ◌∷◌, refl, ap, sym, ◌∙◌, subst, inl, inr}
 use Rattle.std.specs.Prelude.{reverse, All, IfOk}
 use Rattle.std.specs.declared.result.Result.{Result}
 use Rattle.std.specs.declared.result.Result.TheVariants.{Ok, Err}
@@ -7,51 +7,32 @@ use Rattle.std.proofs.lemmas.List.{reverse-reverse}
 use Rattle.std.proofs.lemmas.List.Elements.{All-nil, All-cons, All-append, All-head, All-tail}
 use mathlib.Core.List.{reverse-cons}
 use Rattle.peano_keys.specs.declared.vertex.VertexKey.{VertexKey}
-use Rattle.peano_keys.specs.declared.dim.Dim.{Dim}
-use Rattle.peano_keys.specs.Vertex.{IsVertex, adjacent_of}
-use Rattle.peano_keys.specs.Grid.{Spacetree, IsStored}
+use Rattle.peano_keys.specs.Vertex.{IsVertex}
+use Rattle.peano_keys.specs.Grid.{Spacetree}
 use Rattle.peano_keys.specs.Field.{States, value_of}
-use Rattle.peano_records.specs.declared.slot.Slot.{Slot}
-use Rattle.peano_records.specs.declared.slot.Intent.TheVariants.{Stay}
 use Rattle.peano_records.specs.declared.stored.Stored.{Stored}
-use Rattle.peano_records.specs.declared.view.CellView.{CellView}
-use Rattle.peano_records.specs.Slots.{VertexRecord, slot_at, fresh}
-use Rattle.peano_records.specs.Tells.{corner_at}
-use Rattle.peano_records.proofs.Fresh.{fresh_slot_at}
-use Rattle.peano_records.proofs.Intents.{below_eight}
-use Rattle.peano_records.specs.AtRest.{SaysOutside}
-use Rattle.hanging_nodes.specs.Views.{HasSlots}
+use Rattle.peano_records.specs.Slots.{fresh}
 use Rattle.peano_curve.specs.declared.order.Direction.TheVariants.{Forward, Backward}
 use Rattle.stack_law.specs.Once.{IsIn}
 use Rattle.curve_cuts.specs.Cuts.{Cuts, IsCutGrid, range_of}
 use Rattle.curve_cuts.specs.Keys.{cuts_of}
 use Rattle.vertex_stacks.specs.declared.kind.Kind.TheVariants as kind
-use Rattle.vertex_stacks.specs.declared.tale.Tale.{Tale}
 use Rattle.vertex_stacks.specs.Notes.{Note}
 use Rattle.sweep_visits.specs.Plan.{SweepPlan, IsSweepPlan, dim_of}
 use Rattle.sweep_visits.specs.Moves.{moves_of, put_by}
 use Rattle.sweep_streams.specs.Streams.{ComesAfter}
 use Rattle.sweep_streams.proofs.Pushes.{streams_are_stored}
-use Rattle.sweep_visits.specs.Visits.{Visit, enter, leave}
 use Rattle.tree_automaton.specs.declared.kinds.Serves.TheVariants.{Raising}
-use Rattle.tree_automaton.specs.Sweep.{TreeSweep, tells_new}
-use Rattle.tree_automaton.specs.Promises.{MayEnter, MayLeave, Meaning}
-use Rattle.tree_automaton.specs.Story.{Call, Story, IsAmong, IsOfOutput, Matched, with_calls}
-use Rattle.tree_automaton.specs.Sweeps.{AllCallsFit, Chain, Stands, SweepGives, begun}
-use Rattle.tree_automaton.specs.Journeys.{IsJourney, IsStop, Stop}
+use Rattle.tree_automaton.specs.Promises.{Meaning}
+use Rattle.tree_automaton.specs.Story.{IsOfOutput, Matched, with_calls}
+use Rattle.tree_automaton.specs.Sweeps.{SweepGives, begun}
 use Rattle.tree_automaton.specs.TreeLists.{TreeLists}
 use Rattle.tree_automaton.specs.AtRest.{CanSweep, HasLists, plain_plan, raising_plan}
 use Rattle.tree_automaton.proofs.Rests.{store_can_be_raised}
-use Rattle.tree_automaton.proofs.Collects.{each_call}
-use Rattle.tree_automaton.proofs.Journeys.{each_record_has_a_journey}
-use Rattle.step_phases.specs.Stores.{Says, TreeSays}
 use Rattle.swept_slots.specs.Copies.{copies}
 use Rattle.swept_slots.proofs.Stores.{all_in, store_has_copies}
 use Rattle.swept_slots.proofs.Visited.{among_in}
-use Rattle.step_phases.specs.Phases.{AfterRaise}
-use Rattle.step_phases.proofs.Grids.{level_in, at_position_is}
 use Rattle.adapt_sweep.specs.declared.raise.Raise.{Raise}
-use Rattle.adapt_sweep.specs.Raises.{Source, source_of, IsRaisedSlot, IsRaisedRecord, IsRaisedView}
 use Rattle.tree_automaton.specs.Noted.{note_of}
 use Rattle.adapt_sweep.specs.Raising.{Raises, LeavesAsIs, CanBeRaised, IsRaisedTree}
 use Rattle.step_phases.specs.Sweeps.{IsRaised, IsSweptRecord, RaiseChanges}

@@ -1,18 +1,16 @@
 -- A tree's adaptation sweep, from its store before it to the one after it.
-use Rattle.std.proofs.Common.{◌≡◌, ◌⊎◌, ℕ, ◌<◌, ◌≤◌, Bool, true, false, List, Some, map, refl, ap, sym, ◌∙◌, subst, inl, inr, ⊎_elim, arith}
+use Rattle.std.proofs.Common.{◌≡◌, ◌⊎◌, ℕ, Bool, true, false, map, refl, ap, sym, ◌∙◌, subst, inl, inr, ⊎_elim}
 use Rattle.std.specs.FinMap as fin
 use Rattle.std.specs.FinSet as set
 use Rattle.std.proofs.lemmas.Bool.{false≢true}
 use Rattle.peano_keys.specs.declared.cell.CellKey.{CellKey}
 use Rattle.peano_keys.specs.declared.vertex.VertexKey.{VertexKey}
-use Rattle.peano_keys.specs.Grid.{Spacetree, IsStored}
-use Rattle.peano_keys.specs.Field.{States}
 use Rattle.stack_law.specs.Stack.{AreDistinct}
 use Rattle.peano_curve.specs.declared.order.Direction.TheVariants.{Forward}
 use Rattle.peano_records.specs.declared.slot.Slot.{Slot}
 use Rattle.peano_records.specs.declared.view.CellView.{CellView}
 use Rattle.hanging_nodes.specs.Views.{AreOldAndNew, IsStoredBefore}
-use Rattle.curve_cuts.specs.Cuts.{Cuts, Held, HasVertex, IsCutGrid, range_of}
+use Rattle.curve_cuts.specs.Cuts.{Cuts, Held, HasVertex, range_of}
 use Rattle.curve_cuts.proofs.Cuts.{owner_holds}
 use Rattle.vertex_stacks.specs.declared.kind.Kind.TheVariants as kind
 use Rattle.vertex_stacks.specs.Notes.{Note}
@@ -23,7 +21,7 @@ use Rattle.sweep_visits.specs.Runs.{turned_round}
 use Rattle.sweep_streams.specs.Streams.{ComesAfter}
 use Rattle.sweep_streams.proofs.Once.{none_taken_twice}
 use Rattle.step_phases.specs.Change.{Change}
-use Rattle.step_phases.specs.Sweeps.{AdaptChanges, IsAdapted, IsAdaptedRecord}
+use Rattle.step_phases.specs.Sweeps.{AdaptChanges, IsAdapted}
 use Rattle.tree_automaton.specs.declared.kinds.Serves.TheVariants.{Adapting}
 use Rattle.tree_automaton.specs.TreeLists.{TreeLists}
 use Rattle.tree_automaton.specs.Promises.{Meaning}

@@ -1,5 +1,5 @@
 -- What an adaptation sweep makes of a store that stands before it.
-use Rattle.std.specs.Prelude.{◌≡◌, ℕ, ◌<◌, Some}
+use Rattle.std.specs.Prelude.{ℕ, ◌<◌, Some}
 use Rattle.peano_curve.specs.declared.order.Direction.{Direction}
 use Rattle.peano_curve.specs.declared.range.Range.{Range}
 use Rattle.peano_keys.specs.Grid.{Spacetree}
@@ -26,10 +26,15 @@ pub record CanBeAdapted (k : Cuts) (w : Change) (s : TreeLists) : Type 0 where
 
 -- the plan of a sweep that leads from one grid to another
 abbrev pub adapting_plan : ℕ → Range → Direction → Spacetree → Spacetree → SweepPlan
-adapting_plan depth range dir old new = record { depth = depth; range = range; dir = dir; old = Some old; new = new }
+adapting_plan depth range dir old new =
+    record { depth = depth; range = range; dir = dir; old = Some old; new = new }
 
 -- An adapted store has the lists of a store at rest of the new grid, to be read the other way, and its copies of the vertices are adapted.
-pub record IsAdaptedTree (k : Cuts) (w : Change) (step : ℕ) (s t : TreeLists) (note : Note) : Type 0 where
+pub record IsAdaptedTree (k : Cuts) (w : Change) (step : ℕ) (s t : TreeLists)
+    (note : Note) : Type 0 where
   pub lists : HasLists (plain_plan k.depth (range_of k s.tree) (turned_round s.dir) w.new) s.tree t
   pub slots : IsAdapted k w s.tree (copies s.lanes.input) (copies t.lanes.input)
-  pub noted : IsNoted (adapting_plan k.depth (range_of k s.tree) s.dir w.old w.new) kind.Adapt step s.tree s.lanes.tale t.lanes.tale note
+  pub noted : IsNoted
+      (adapting_plan k.depth
+      (range_of k s.tree) s.dir w.old w.new) kind.Adapt step s.tree s.lanes.tale t.lanes.tale
+      note

@@ -24,7 +24,8 @@ corner_tells k Beyond = false
 -- whether a view tells that its cell is refined in the new grid: by the home corner, and never a cell that is new
 abbrev pub refined_by : Dim → Option Bool → CellView → Bool
 refined_by dim None v = false
-refined_by dim (Some was) v = corner_tells (slot_from dim (home_of dim v.key)) (corner_at v (home_of dim v.key))
+refined_by dim (Some was) v =
+    corner_tells (slot_from dim (home_of dim v.key)) (corner_at v (home_of dim v.key))
 
 -- whether the cell of a view is refined in the new grid
 abbrev pub refined_next : Dim → CellView → Bool
@@ -41,7 +42,8 @@ value_next dim v = value_by dim v.was v
 
 -- a corner with status and value written into one slot, where it is a vertex
 abbrev pub written : ℕ → Status → State → Corner → Corner
-written k status value (Vertex s) = Vertex (with_slot s k (record (slot_at s k) { status = status; value = value }))
+written k status value (Vertex s) =
+    Vertex (with_slot s k (record (slot_at s k) { status = status; value = value }))
 written k status value (Hanging v) = Hanging v
 written k status value Beyond = Beyond
 
@@ -49,7 +51,8 @@ written k status value Beyond = Beyond
 pub record IsAdaptedView (dim : Dim) (v w : CellView) : Type 0 where
   pub each : (n : ℕ) → n < corners dim
       → corner_at w n
-      ≡ written (slot_from dim n) (status_of (refined_next dim v)) (value_next dim v) (corner_at v n)
+      ≡ written (slot_from dim n) (status_of (refined_next dim v)) (value_next dim v)
+      (corner_at v n)
   pub past : (n : ℕ) → corners dim ≤ n → corner_at w n ≡ corner_at v n
   pub size : length w.corners ≡ length v.corners
   pub others : w ≡ record v { corners = w.corners }

@@ -1,4 +1,5 @@
 pub mod Own
+pub mod Uniform
 pub mod Lone
 pub mod Raises
 pub mod Raising

@@ -27,7 +27,8 @@ pub record Source : Type 0 where
 
 -- what a visitor raises from
 abbrev pub source_of : Raise → Source
-source_of r = record { grid = r.grid.now; field = r.field.now; cuts = cuts_of r.keys.now; tree = r.tree }
+source_of r =
+    record { grid = r.grid.now; field = r.field.now; cuts = cuts_of r.keys.now; tree = r.tree }
 
 -- the tree's own cells take their values from the field, and no other slot takes one
 abbrev pub HasOwnValue : Source → Option CellKey → Slot → Slot → Type 0

@@ -31,7 +31,10 @@ pub record CanBeRaised (k : Cuts) (g : Spacetree) (s : TreeLists) : Type 0 where
 
 -- What a raising sweep gives, from the store before it: the lists of a store at rest, to be read backward; the tree's copies are new ones that
 -- have the status of each cell, whoever owns it, and the value of each that the tree owns; and the note.
-pub record IsRaisedTree (k : Cuts) (g : Spacetree) (f : States) (step : ℕ) (s t : TreeLists) (note : Note) : Type 0 where
+pub record IsRaisedTree (k : Cuts) (g : Spacetree) (f : States) (step : ℕ) (s t : TreeLists)
+    (note : Note) : Type 0 where
   pub lists : HasLists (plain_plan k.depth (range_of k s.tree) Backward g) s.tree t
   pub slots : IsRaised k g (value_of g f) s.tree (copies t.lanes.input)
-  pub noted : IsNoted (raising_plan k.depth (range_of k s.tree) Forward g) kind.Raise step s.tree s.lanes.tale t.lanes.tale note
+  pub noted : IsNoted
+      (raising_plan k.depth
+      (range_of k s.tree) Forward g) kind.Raise step s.tree s.lanes.tale t.lanes.tale note

@@ -121,7 +121,13 @@ impl<'a, N: NewGrid> Adapt<'a, N> {
 }
 
 impl<'a, N: NewGrid> Visitor for Adapt<'a, N> {
-    ghost meaning = { λ a. record { serves = Adapting; dim = N.grid.dim; new_grid = N.grid; may_want = false; loan = 0 } };
+    ghost meaning = { λ a. record {
+      serves = Adapting;
+      dim = N.grid.dim;
+      new_grid = N.grid;
+      may_want = false;
+      loan = 0;
+    } };
 
     ghost entered = { λ a v w b. (b ≡ a) × Adapts (cuts_of a.keys.now) a.tree v w };
 

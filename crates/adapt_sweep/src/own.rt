@@ -1,14 +1,14 @@
 //! Which cells a tree owns, and the status and the value of a cell.
-ghost use Rattle.std.specs.Prelude.{◌≡◌, ◌↔◌, ◌-◌, ◌<◌, IsTrue};
-ghost use Rattle.peano_keys.specs.Dim.{corners};
+ghost use Rattle.std.specs.Prelude.{◌≡◌, ◌↔◌, ◌<◌, IsTrue};
 ghost use Rattle.peano_keys.specs.Cell.{IsCell};
 ghost use Rattle.peano_keys.specs.Field.{value_of};
 ghost use Rattle.peano_records.specs.AtRest.{status_of};
 ghost use Rattle.curve_cuts.specs.Keys.{cuts_of};
 ghost use Rattle.adapt_sweep.specs.Own.{IsOwn};
+ghost use Rattle.adapt_sweep.specs.Uniform.{IsUniformField};
 
 use curve_cuts::Keys;
-use peano_keys::{CellKey, Dim, State, child};
+use peano_keys::{CellKey, State};
 use peano_records::Status;
 use spacetree::{Field, Grid};
 
@@ -21,19 +21,13 @@ pub(crate) fn is_own(keys: &Keys, tree: u32, cell: CellKey) -> bool
     cell.level <= keys.depth() && keys.owns(cell, tree)
 }
 
-// The value of a cell: its state where it is a leaf, else the value of its centre child.
+// The value of a cell of the domain: its value in the field where the grid has it, else one zero.
 pub(crate) fn value(grid: &Grid, field: &Field, key: CellKey) -> State
-    requires { IsCell grid.now.dim key }
+    requires field { IsUniformField grid.now field.now }
+    requires cell { IsCell grid.now.dim key }
     ensures { result ≡ value_of grid.now field.now key }
 {
-    if key.level == 12 || !grid.is_refined(&key) {
-        return field.get(&key).unwrap_or(State::Single(0));
-    }
-    let third = match grid.dim() {
-        Dim::Two => 0,
-        Dim::Three => 1,
-    };
-    value(grid, field, child(key, [1, 1, third]))
+    field.value_of(grid, &key).unwrap_or(State::Single(0))
 }
 
 // The status of a cell.

@@ -1,6 +1,9 @@
 //! What a tree is raised from.
-ghost use Rattle.std.specs.Prelude.{◌≡◌, ◌<◌};
+ghost use Rattle.std.specs.Prelude.{◌≡◌, ◌<◌, ℕ};
+ghost use Rattle.peano_keys.specs.Grid.{IsGrid};
+ghost use Rattle.spacetree.specs.Fields.{IsFieldOn};
 ghost use Rattle.curve_cuts.specs.Keys.{cuts_of};
+ghost use Rattle.adapt_sweep.specs.Uniform.{IsUniformField};
 
 use curve_cuts::Keys;
 use spacetree::{Field, Grid};
@@ -13,13 +16,17 @@ pub struct Raise<'a> {
     pub(crate) field: &'a Field,
     pub(crate) keys: &'a Keys,
     pub(crate) tree: u32,
+    ghost uniform: { IsUniformField grid.now field.now },
     ghost same: { grid.now.dim ≡ keys.now.dim },
     ghost one: { tree < (cuts_of keys.now).trees },
 }
 
 impl<'a> Raise<'a> {
-    /// A visitor that raises one of the trees of some keys over a grid and its field.
+    /// A visitor that raises one of the trees of some keys over a grid and its field, whose states all have as many
+    /// values.
     pub fn new(grid: &'a Grid, field: &'a Field, keys: &'a Keys, tree: u32) -> Raise<'a>
+        requires depth { IsGrid 12 grid.now }
+        requires parts { (parts : ℕ) × IsFieldOn parts grid.now field.now }
         requires dim { grid.now.dim ≡ keys.now.dim }
         requires one { tree < (cuts_of keys.now).trees }
         ensures grid { result.grid.now ≡ grid.now }

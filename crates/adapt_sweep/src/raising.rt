@@ -72,7 +72,13 @@ impl<'a> Raise<'a> {
 }
 
 impl<'a> Visitor for Raise<'a> {
-    ghost meaning = { λ r. record { serves = Raising; dim = r.grid.now.dim; new_grid = r.grid.now; may_want = false; loan = 0 } };
+    ghost meaning = { λ r. record {
+      serves = Raising;
+      dim = r.grid.now.dim;
+      new_grid = r.grid.now;
+      may_want = false;
+      loan = 0;
+    } };
 
     ghost entered = { Raises };
 

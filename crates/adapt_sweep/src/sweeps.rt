@@ -1,6 +1,7 @@
 //! Whole sweeps of a tree.
-ghost use Rattle.std.specs.Prelude.{◌≡◌, false, IfOk, OnErr};
+ghost use Rattle.std.specs.Prelude.{◌≡◌, ℕ, false, IfOk, OnErr};
 ghost use Rattle.peano_curve.specs.declared.order.Direction.TheVariants.{Backward};
+ghost use Rattle.spacetree.specs.Fields.{IsFieldOn};
 ghost use Rattle.curve_cuts.specs.Cuts.{range_of};
 ghost use Rattle.curve_cuts.specs.Keys.{cuts_of};
 ghost use Rattle.tree_automaton.specs.AtRest.{StandsFor};
@@ -16,8 +17,8 @@ use std::alloc::AllocError;
 use tree_automaton::{TreeStore, sweep};
 use vertex_stacks::{Kind, SweepNote};
 
-/// Raises the empty store of a tree over a grid and its field. Where there is one tree, it stands for them then. It is
-/// refused for want of memory alone, and then the store is not live.
+/// Raises the empty store of a tree over a grid and its field, whose states all have as many values. Where there is one
+/// tree, it stands for them then. It is refused for want of memory alone, and then the store is not live.
 pub fn raise_tree(
     store: &mut TreeStore,
     grid: &Grid,
@@ -25,10 +26,16 @@ pub fn raise_tree(
     keys: &Keys,
     step: u32,
 ) -> Result<SweepNote, AllocError>
-    requires { CanBeRaised (cuts_of keys.now) grid.now store.old }
-    ensures raised { IfOk result (λ note. IsRaisedTree (cuts_of keys.now) grid.now field.now step store.old store.new note) }
-    ensures alone { IfOk result (λ _. (cuts_of keys.now).trees ≡ 1
-        → StandsFor (cuts_of keys.now).depth (range_of (cuts_of keys.now) store.old.tree) store.old.tree Backward grid.now field.now store.new) }
+    requires store { CanBeRaised (cuts_of keys.now) grid.now store.old }
+    requires field { (parts : ℕ) × IsFieldOn parts grid.now field.now }
+    ensures raised { IfOk result
+        (λ note. IsRaisedTree (cuts_of keys.now) grid.now field.now step store.old store.new note) }
+    ensures alone { IfOk result
+        (λ _. (cuts_of keys.now).trees ≡ 1
+        → StandsFor (cuts_of keys.now).depth
+        (range_of
+        (cuts_of keys.now) store.old.tree) store.old.tree Backward grid.now field.now
+        store.new) }
     ensures refused { OnErr result (store.new.live ≡ false) }
     ensures tale { OnErr result (store.new.lanes.tale ≡ store.old.lanes.tale) }
 {

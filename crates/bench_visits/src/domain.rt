@@ -5,6 +5,7 @@ ghost use Rattle.peano_curve.specs.declared.order.Direction.TheVariants.{Backwar
 ghost use Rattle.curve_cuts.specs.Cuts.{IsCutGrid, AreCuts, range_of};
 ghost use Rattle.curve_cuts.specs.Keys.{cuts_of};
 ghost use Rattle.spacetree.specs.Build.{IsShape, IsZone};
+ghost use Rattle.spacetree.specs.Fields.{IsFieldOn};
 ghost use Rattle.tree_automaton.specs.AtRest.{StandsFor};
 
 use adapt_sweep::raise_tree;
@@ -95,7 +96,10 @@ pub fn raised(
 ) -> Result<TreeStore, AllocError>
     requires grid { IsCutGrid (cuts_of keys.now) grid.now }
     requires one { (cuts_of keys.now).trees ≡ 1 }
-    ensures { IfOk result (λ store. StandsFor keys.now.depth (range_of (cuts_of keys.now) 0) 0 Backward grid.now field.now store) }
+    requires field { IsFieldOn 1 grid.now field.now }
+    ensures { IfOk result
+        (λ store. StandsFor keys.now.depth
+        (range_of (cuts_of keys.now) 0) 0 Backward grid.now field.now store) }
 {
     let mut store = TreeStore::new(alloc, grid.dim(), keys.depth(), keys.range(0), 0);
     raise_tree(&mut store, grid, field, keys, 0)?;

@@ -16,7 +16,13 @@ pub struct Idle {
 }
 
 impl Visitor for Idle {
-    ghost meaning = { λ v. record { serves = Plain; dim = v.dim; new_grid = record { dim = v.dim; refined = set.empty }; may_want = false; loan = 0 } };
+    ghost meaning = { λ v. record {
+      serves = Plain;
+      dim = v.dim;
+      new_grid = record { dim = v.dim; refined = set.empty };
+      may_want = false;
+      loan = 0;
+    } };
 
     ghost entered = { ChangesNothing };
 

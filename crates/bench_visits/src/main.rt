@@ -7,6 +7,7 @@ ghost use Rattle.std.specs.Prelude.{◌≡◌};
 ghost use Rattle.curve_cuts.specs.Cuts.{IsCutGrid};
 ghost use Rattle.curve_cuts.specs.Keys.{cuts_of};
 ghost use Rattle.spacetree.specs.Build.{IsShape};
+ghost use Rattle.spacetree.specs.Fields.{IsFieldOn};
 
 mod domain;
 mod idle;
@@ -45,6 +46,7 @@ fn time_sweeps<R: Clock + Alloc<A = Global>>(
 ) -> Result<Figure>
     requires grid { IsCutGrid (cuts_of keys.now) grid.now }
     requires one { (cuts_of keys.now).trees ≡ 1 }
+    requires field { IsFieldOn 1 grid.now field.now }
 {
     let mut figure = Figure {
         visits: 0,

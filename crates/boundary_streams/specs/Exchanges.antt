@@ -16,17 +16,20 @@ pub record IsBox (k : Cuts) (before after : ℕ → TreeLists) (o : Outgoing) : 
   pub collected : IsCollected k (before o.sender) o ⊎ IsCollected k (after o.sender) o
 
 -- boxes for a tree: those of all other trees, in any order
-pub record AreBoxes (k : Cuts) (before after : ℕ → TreeLists) (t : ℕ) (boxes : List Outgoing) : Type 0 where
+pub record AreBoxes (k : Cuts) (before after : ℕ → TreeLists) (t : ℕ)
+    (boxes : List Outgoing) : Type 0 where
   pub sent : (o : Outgoing) → IsIn o boxes → IsBox k before after o
   pub all : (s : ℕ) → s < k.trees → s ≢ t → (o : Outgoing) × IsIn o boxes × (o.sender ≡ s)
 
 -- a tree merged what the others sent
-pub record HasMerged (phase : Phase) (k : Cuts) (before after : ℕ → TreeLists) (t : ℕ) : Type 0 where
+pub record HasMerged (phase : Phase) (k : Cuts) (before after : ℕ → TreeLists)
+    (t : ℕ) : Type 0 where
   pub boxes : List Outgoing
   pub are_boxes : AreBoxes k before after t boxes
   pub merged : IsMerged phase k (sent_to boxes t) (before t) (after t)
 
 -- all trees exchange what they have: their stores hold the stored vertices of one grid, and each merges what the others sent
-pub record IsExchange (phase : Phase) (k : Cuts) (g : Spacetree) (before after : ℕ → TreeLists) : Type 0 where
+pub record IsExchange (phase : Phase) (k : Cuts) (g : Spacetree)
+    (before after : ℕ → TreeLists) : Type 0 where
   pub holds : (t : ℕ) → t < k.trees → HoldsVertices k g t (before t)
   pub merges : (t : ℕ) → t < k.trees → HasMerged phase k before after t

@@ -16,7 +16,8 @@ is_met k r (Some c) = ranges_meet (interval_of k.dim c k.depth) r
 
 -- whether a tree holds an adjacent position of a vertex
 abbrev pub has_corner : Cuts → ℕ → VertexKey → Bool
-has_corner k t v = list_any (λ n. is_met k (range_of k t) (adjacent_of k.dim v n)) (corner_numbers k.dim)
+has_corner k t v =
+    list_any (λ n. is_met k (range_of k t) (adjacent_of k.dim v n)) (corner_numbers k.dim)
 
 -- whether a tree sends a vertex to another one
 abbrev pub is_sent : Cuts → ℕ → ℕ → VertexKey → Bool

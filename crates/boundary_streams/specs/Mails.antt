@@ -34,7 +34,8 @@ HasOneMore s p old new = (a : Address)
 abbrev pub HasNoted : ℕ → List Parcel → Received → Received → Type 0
 HasNoted s list old new = (a : Address)
     → parcel_at new a
-    ≡ (if s == a.sender then option_or (last_of a.vertex list) (parcel_at old a) else parcel_at old a)
+    ≡ (if s == a.sender then option_or (last_of a.vertex list) (parcel_at old a)
+    else parcel_at old a)
 
 -- all parcels that these boxes have for a tree were added
 abbrev pub HasReceived : ℕ → List Outgoing → Received → Type 0
@@ -55,9 +56,11 @@ pub record IsOwnerAt (k : Cuts) (t : ℕ) (v : VertexKey) (n o : ℕ) : Type 0 w
 
 -- the parcel for a slot by the owners of the cells round the vertex: none for the tree's own
 abbrev pub source_of : Mail → List ℕ → ℕ → VertexKey → ℕ → Option Parcel
-source_of mail owners t v n = if slice_index owners n == t then None else mail (slice_index owners n) v
+source_of mail owners t v n = if slice_index owners n == t then None
+    else mail (slice_index owners n) v
 
 -- what is found for a slot: what the owner sent, where that is another tree
-pub record IsSource (k : Cuts) (mail : Mail) (t : ℕ) (v : VertexKey) (n : ℕ) (found : Option Parcel) : Type 0 where
+pub record IsSource (k : Cuts) (mail : Mail) (t : ℕ) (v : VertexKey) (n : ℕ)
+    (found : Option Parcel) : Type 0 where
   pub others : (o : ℕ) → OwnsSlot k o v n → o ≢ t → found ≡ mail o v
   pub own : ((o : ℕ) → OwnsSlot k o v n → o ≡ t) → found ≡ None

@@ -28,7 +28,8 @@ taken phase n (Some p) ours = overwritten phase (slice_index_or p.slots n (blank
 
 -- A record after a tree's merge, slot by slot. Where another tree owns the slot's cell, the fields of the phase are those of what that tree sent of the vertex;
 -- all other slots keep them. Then every slot is finished.
-pub record IsMergedRecord (phase : Phase) (k : Cuts) (mail : Mail) (t : ℕ) (old new : VertexRecord) : Type 0 where
+pub record IsMergedRecord (phase : Phase) (k : Cuts) (mail : Mail) (t : ℕ)
+    (old new : VertexRecord) : Type 0 where
   pub key : new.key ≡ old.key
   pub size : length new.slots ≡ length old.slots
   pub others : (n o : ℕ) → OwnsSlot k o old.key n → o ≢ t
@@ -41,4 +42,5 @@ pub record IsMerged (phase : Phase) (k : Cuts) (mail : Mail) (old new : TreeList
   pub rest : new ≡ record old { lanes = record old.lanes { input = new.lanes.input } }
   pub count : length new.lanes.input ≡ length old.lanes.input
   pub records : (i : ℕ) (d : VertexRecord) → i < length old.lanes.input
-      → IsMergedRecord phase k mail old.tree (slice_index_or old.lanes.input i d) (slice_index_or new.lanes.input i d)
+      → IsMergedRecord phase k mail old.tree (slice_index_or old.lanes.input i d)
+      (slice_index_or new.lanes.input i d)

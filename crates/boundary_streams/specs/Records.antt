@@ -23,14 +23,17 @@ abbrev pub new_slot : Phase → ℕ → Option Parcel → VertexRecord → Slot
 new_slot phase n found v = finished phase (taken phase n found (slot_at v n))
 
 -- one slot of a record is changed as the phase says, and all else is as it was
-pub record IsSlotExchanged (phase : Phase) (i n : ℕ) (found : Option Parcel) (old new : TreeLists) : Type 0 where
+pub record IsSlotExchanged (phase : Phase) (i n : ℕ) (found : Option Parcel)
+    (old new : TreeLists) : Type 0 where
   pub eight : (d : VertexRecord) → length (record_at old i d).slots ≡ 8
   pub slot : (d : VertexRecord)
       → new
-      ≡ with_record old i (with_slot (record_at old i d) n (new_slot phase n found (record_at old i d)))
+      ≡ with_record old i
+      (with_slot (record_at old i d) n (new_slot phase n found (record_at old i d)))
 
 -- all slots of a record are, each with what is found for it
-pub record IsRecordExchanged (phase : Phase) (i : ℕ) (found : ℕ → Option Parcel) (old new : TreeLists) : Type 0 where
+pub record IsRecordExchanged (phase : Phase) (i : ℕ) (found : ℕ → Option Parcel)
+    (old new : TreeLists) : Type 0 where
   pub next : VertexRecord
   pub rest : new ≡ with_record old i next
   pub key : (d : VertexRecord) → next.key ≡ (record_at old i d).key
@@ -39,7 +42,8 @@ pub record IsRecordExchanged (phase : Phase) (i : ℕ) (found : ℕ → Option P
       → slot_at next n ≡ new_slot phase n (found n) (record_at old i d)
 
 -- one record is merged, and all else is as it was
-pub record MergesAt (phase : Phase) (k : Cuts) (mail : Mail) (i : ℕ) (old new : TreeLists) : Type 0 where
+pub record MergesAt (phase : Phase) (k : Cuts) (mail : Mail) (i : ℕ)
+    (old new : TreeLists) : Type 0 where
   pub next : VertexRecord
   pub rest : new ≡ with_record old i next
   pub merged : (d : VertexRecord) → IsMergedRecord phase k mail old.tree (record_at old i d) next

@@ -45,7 +45,8 @@ interval_at k (Some c) = interval_of k.dim c k.depth
 
 -- the interval of adjacent position number `n` of a vertex, empty where there is none
 abbrev pub interval_round : Cuts → VertexKey → ℕ → Range
-interval_round k v n = interval_at k (if nat_lt n (corners k.dim) then adjacent_of k.dim v n else None)
+interval_round k v n =
+    interval_at k (if nat_lt n (corners k.dim) then adjacent_of k.dim v n else None)
 
 -- of all eight
 abbrev pub intervals_round : Cuts → VertexKey → List Range
@@ -69,7 +70,9 @@ is_met_before k s rs n t = not (t == s) && is_any_met (range_of k t) (take n rs)
 
 -- whether it meets interval number `n` and none before it
 abbrev pub is_met_first : Cuts → ℕ → List Range → ℕ → ℕ → Bool
-is_met_first k s rs n t = not (t == s) && (not (is_any_met (range_of k t) (take n rs)) && ranges_meet (interval_in rs n) (range_of k t))
+is_met_first k s rs n t = not (t == s)
+    && (not (is_any_met (range_of k t) (take n rs))
+    && ranges_meet (interval_in rs n) (range_of k t))
 
 -- the third coordinate of a vertex lies inside a cell two levels above, or is the one of a plane
 abbrev pub IsThirdInside : Dim → ℕ → Type 0

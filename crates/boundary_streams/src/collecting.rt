@@ -34,8 +34,11 @@ fn add(
     wanted: bool,
 ) -> Result<(), AllocError>
     requires { place < length lists.old.items }
-    ensures { OnOk result (map items_of lists.new.items ≡ (if wanted
-        then slice_set (map items_of lists.old.items) place (slice_index_or (map items_of lists.old.items) place [] ++ parcel.now ∷ [])
+    ensures { OnOk result
+        (map items_of lists.new.items
+        ≡ (if wanted
+        then slice_set (map items_of lists.old.items) place
+        (slice_index_or (map items_of lists.old.items) place [] ++ parcel.now ∷ [])
         else map items_of lists.old.items)) }
 {
     if !wanted {
@@ -59,7 +62,9 @@ fn send_round(
     requires place { n < 8 }
     requires within { AreWithin (cuts_of keys.now) intervals.now }
     requires lists { length lists.old.items ≡ (cuts_of keys.now).trees }
-    ensures { OnOk result (AddsWhere (is_met_first (cuts_of keys.now) tree intervals.now n) parcel.now (map items_of lists.old.items) (map items_of lists.new.items)) }
+    ensures { OnOk result
+        (AddsWhere (is_met_first (cuts_of keys.now) tree intervals.now n) parcel.now
+        (map items_of lists.old.items) (map items_of lists.new.items)) }
 {
     let interval = intervals[n];
     if interval.hi <= interval.lo {
@@ -84,7 +89,9 @@ fn send(
 ) -> Result<(), AllocError>
     requires key { IsKeyOf (cuts_of keys.now) parcel.now.key }
     requires lists { length lists.old.items ≡ (cuts_of keys.now).trees }
-    ensures { OnOk result (HasSent (cuts_of keys.now) tree parcel.now (map items_of lists.old.items) (map items_of lists.new.items)) }
+    ensures { OnOk result
+        (HasSent (cuts_of keys.now) tree parcel.now (map items_of lists.old.items)
+        (map items_of lists.new.items)) }
 {
     let intervals = intervals(keys, parcel.key);
     for n in 0..8 {
@@ -103,7 +110,10 @@ fn send_at(
     requires place { k < length store.now.lanes.input }
     requires store { IsTreeOf (cuts_of keys.now) store.now }
     requires lists { length lists.old.items ≡ (cuts_of keys.now).trees }
-    ensures { OnOk result (IsSomeAnd (slice_get store.now.lanes.input k) (λ v. HasSent (cuts_of keys.now) store.now.tree (parcel_of v) (map items_of lists.old.items) (map items_of lists.new.items))) }
+    ensures { OnOk result
+        (IsSomeAnd (slice_get store.now.lanes.input k)
+        (λ v. HasSent (cuts_of keys.now) store.now.tree (parcel_of v)
+        (map items_of lists.old.items) (map items_of lists.new.items))) }
 {
     let tree = store.tree();
     let vertex = store.key_at(k);

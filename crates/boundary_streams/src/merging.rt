@@ -52,7 +52,8 @@ fn source(
     requires owners { length owners.now ≡ 8 }
     requires eight { length found.now ≡ 8 }
     requires found { (m : ℕ) → m < n
-        → slice_index_or found.now m None ≡ source_of (mail_of received.now) owners.now tree vertex m }
+        → slice_index_or found.now m None
+        ≡ source_of (mail_of received.now) owners.now tree vertex m }
     ensures { result ≡ source_of (mail_of received.now) owners.now tree vertex n }
 {
     let owner = owners[n as usize];
@@ -95,7 +96,8 @@ fn sources_round(
 ) -> [Option<Parcel>; 8]
     requires { IsKeyOf (cuts_of keys.now) vertex }
     ensures each { (n : ℕ) → n < 8
-        → IsSource (cuts_of keys.now) (mail_of received.now) tree vertex n (slice_index_or result n None) }
+        → IsSource (cuts_of keys.now) (mail_of received.now) tree vertex n
+        (slice_index_or result n None) }
     ensures eight { length result ≡ 8 }
 {
     let owners = owners_round(keys, vertex, tree);
@@ -170,7 +172,8 @@ pub fn merge(
 ) -> Result<(), AllocError>
     requires { IsTreeOf (cuts_of keys.now) store.old }
     // Every slot of the store afterwards.
-    ensures ok { OnOk result (IsMerged phase (cuts_of keys.now) (sent_to boxes.now store.old.tree) store.old store.new) }
+    ensures ok { OnOk result
+        (IsMerged phase (cuts_of keys.now) (sent_to boxes.now store.old.tree) store.old store.new) }
     // A refusal changes nothing.
     ensures err { OnErr result (store.new ≡ store.old) }
     // What a sweep reads stays, so the store is as ready for the next sweep as before.

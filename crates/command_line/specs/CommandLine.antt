@@ -46,7 +46,8 @@ pub data ReadsAs : List Text → List Given → Type 0 where
 
 -- the value that the first option of this name has
 abbrev pub value_of : OptionName → List Given → Option Text
-value_of name options = option_map (λ g. g.1) (find (λ g. bytes_eq (spelled g.0) (spelled name)) options)
+value_of name options =
+    option_map (λ g. g.1) (find (λ g. bytes_eq (spelled g.0) (spelled name)) options)
 
 -- no name comes twice
 abbrev pub IsOnce : List Given → Type 0
@@ -91,7 +92,8 @@ IsDemo (Some text) None = ⊥
 IsDemo (Some text) (Some n) = Writes text n × (n ≤ 9999999999999999999)
 
 -- the values of the four options mean these settings
-pub record Sets (trees_text workers_text show_text demo_text : Option Text) (w : Words) : Type 0 where
+pub record Sets (trees_text workers_text show_text demo_text : Option Text)
+    (w : Words) : Type 0 where
   pub trees : IsNumber 1 1 64 trees_text w.trees
   pub workers : IsNumber 0 0 16 workers_text w.workers
   pub shown : IsShown show_text w.show
@@ -103,7 +105,8 @@ pub record Means (words : List Text) (w : Words) : Type 0 where
   pub options : List Given
   pub read : ReadsAs words options
   pub once : IsOnce options
-  pub sets : Sets (value_of trees options) (value_of workers options) (value_of show options) (value_of demo options) w
+  pub sets : Sets (value_of trees options) (value_of workers options) (value_of show options)
+      (value_of demo options) w
 
 -- words mean one thing at most
 abbrev pub OneMeaning : Type 0

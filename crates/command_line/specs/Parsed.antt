@@ -17,11 +17,18 @@ option_rule name = record (new_rule name) { long = Some name; action = Some Set 
 
 -- a program that has no words of its own for help or its version, and whose words come without its name
 abbrev pub bare_app : App
-bare_app = on_top (λ s. record s { disable_version_flag = true }) (on_top (λ s. record s { disable_help_flag = true }) (on_top (λ s. record s { no_binary_name = true }) (new_app (codes "peano"))))
+bare_app = on_top (λ s. record s { disable_version_flag = true })
+    (on_top (λ s. record s { disable_help_flag = true })
+    (on_top (λ s. record s { no_binary_name = true }) (new_app (codes "peano"))))
 
 -- with its four options
 abbrev pub words_app : App
-words_app = with_rule (with_rule (with_rule (with_rule bare_app (option_rule (codes "trees"))) (option_rule (codes "workers"))) (option_rule (codes "show"))) (option_rule (codes "demo"))
+words_app = with_rule
+    (with_rule
+    (with_rule (with_rule bare_app (option_rule (codes "trees")))
+    (option_rule (codes "workers")))
+    (option_rule (codes "show")))
+    (option_rule (codes "demo"))
 
 -- the first value that the parse found for an option
 abbrev pub found : Text → List Text → Option Text

@@ -77,8 +77,9 @@ fn number(text: &str) -> Option<u64>
 
 // The number of an option, from `least` to `greatest`.
 fn number_within(text: Option<&str>, otherwise: u32, least: u32, greatest: u32) -> Option<u32>
-    ensures { MatchOption result ((n : ℕ)
-        → ¬ IsNumber otherwise least greatest (option_map (λ s. s.now) text.entry) n) (IsNumber otherwise least greatest (option_map (λ s. s.now) text.entry)) }
+    ensures { MatchOption result
+        ((n : ℕ) → ¬ IsNumber otherwise least greatest (option_map (λ s. s.now) text.entry) n)
+        (IsNumber otherwise least greatest (option_map (λ s. s.now) text.entry)) }
 {
     let Some(text) = text else {
         return Some(otherwise);
@@ -91,8 +92,9 @@ fn number_within(text: Option<&str>, otherwise: u32, least: u32, greatest: u32) 
 
 // What is shown.
 fn shown(text: Option<&str>) -> Option<ShowWhat>
-    ensures { MatchOption result ((what : ShowWhat)
-        → ¬ IsShown (option_map (λ s. s.now) text.entry) what) (IsShown (option_map (λ s. s.now) text.entry)) }
+    ensures { MatchOption result
+        ((what : ShowWhat) → ¬ IsShown (option_map (λ s. s.now) text.entry) what)
+        (IsShown (option_map (λ s. s.now) text.entry)) }
 {
     match text {
         None | Some("fields") => Some(ShowWhat::Fields),
@@ -105,8 +107,8 @@ fn shown(text: Option<&str>) -> Option<ShowWhat>
 // The number of the demonstration, where one is asked for.
 #[tactic(auto, using(crate::proofs::Numbers::written_fits))]
 fn demonstration(text: Option<&str>) -> Option<Option<u64>>
-    ensures { MatchOption result ((n : Option ℕ)
-        → ¬ IsDemo (option_map (λ s. s.now) text.entry) n) (IsDemo (option_map (λ s. s.now) text.entry)) }
+    ensures { MatchOption result ((n : Option ℕ) → ¬ IsDemo (option_map (λ s. s.now) text.entry) n)
+        (IsDemo (option_map (λ s. s.now) text.entry)) }
 {
     match text {
         None => Some(None),

@@ -12,4 +12,5 @@ StandsOut r s = (r.lo < s.lo) ⊎ (s.hi < r.hi)
 
 -- an adjacent position of a vertex is inside the domain, and its interval stands out of the tree's range
 abbrev pub IsForeign : Cuts → ℕ → VertexKey → ℕ → Type 0
-IsForeign k t v n = IsSomeAnd (adjacent_of k.dim v n) (λ c. StandsOut (interval_of k.dim c k.depth) (range_of k t))
+IsForeign k t v n =
+    IsSomeAnd (adjacent_of k.dim v n) (λ c. StandsOut (interval_of k.dim c k.depth) (range_of k t))

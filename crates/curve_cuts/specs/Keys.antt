@@ -15,7 +15,13 @@ pub record CutPoints : Type 0 where
 
 -- the trees between these positions
 abbrev pub cuts_of : CutPoints → Cuts
-cuts_of p = record { dim = p.dim; depth = p.depth; trees = length p.starts - 1; start = λ t. slice_index p.starts t }
+cuts_of p =
+    record {
+      dim = p.dim;
+      depth = p.depth;
+      trees = length p.starts - 1;
+      start = λ t. slice_index p.starts t;
+    }
 
 -- the positions of 1 to 64 trees: they rise from 0 to the number of all positions of the depth
 pub record AreCutPoints (p : CutPoints) : Type 0 where
@@ -29,7 +35,8 @@ abbrev pub first_leaf : List CellKey → ℕ → ℕ → CellKey
 first_leaf leaves n t = slice_index_or leaves (t * length leaves / n) root
 
 -- each of `n` trees begins with its share of the leaves
-pub record AreEqualCuts (d : Dim) (l : ℕ) (leaves : List CellKey) (n : ℕ) (p : CutPoints) : Type 0 where
+pub record AreEqualCuts (d : Dim) (l : ℕ) (leaves : List CellKey) (n : ℕ)
+    (p : CutPoints) : Type 0 where
   pub dim : p.dim ≡ d
   pub depth : p.depth ≡ l
   pub trees : length p.starts ≡ n + 1

@@ -9,7 +9,8 @@ use Rattle.peano_curve.specs.Order.{interval_start}
 -- cells begin one behind another along the curve
 abbrev pub RiseAlong : Dim → ℕ → List CellKey → Type 0
 RiseAlong dim depth cells = (i j : ℕ) (d : CellKey) → i < j → j < length cells
-    → interval_start dim (slice_index_or cells i d) depth < interval_start dim (slice_index_or cells j d) depth
+    → interval_start dim (slice_index_or cells i d) depth
+    < interval_start dim (slice_index_or cells j d) depth
 
 -- the leaves of a grid of a depth, each once, in the order of the curve
 pub record AreLeaves (d : Dim) (depth : ℕ) (t : Spacetree) (leaves : List CellKey) : Type 0 where

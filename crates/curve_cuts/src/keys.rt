@@ -34,7 +34,8 @@ impl Model for Keys {
 
     ghost view = { λ k. record { dim = k.dim; depth = k.depth; starts = k.starts.items } };
 
-    ghost invariant = { λ k. AreCutPoints (record { dim = k.dim; depth = k.depth; starts = k.starts.items }) };
+    ghost invariant = { λ k. AreCutPoints
+        (record { dim = k.dim; depth = k.depth; starts = k.starts.items }) };
 }
 
 // The place among `count` leaves where the share of a tree begins.
@@ -167,7 +168,9 @@ impl Keys {
         requires cell { IsCell self.now.dim cell }
         requires level { cell.level ≤ self.now.depth }
         requires tree { tree < (cuts_of self.now).trees }
-        ensures { IsTrue result → IsPartOf (interval_of self.now.dim cell self.now.depth) (range_of (cuts_of self.now) tree) }
+        ensures { IsTrue result
+            → IsPartOf (interval_of self.now.dim cell self.now.depth)
+            (range_of (cuts_of self.now) tree) }
     {
         let own = interval(self.dim, cell, self.depth);
         let range = self.range(tree);

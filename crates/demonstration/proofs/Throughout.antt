@@ -1,5 +1,5 @@
 -- Through all steps of a demonstration its values stay within their bounds, and no step is refused.
-use Rattle.std.proofs.Common.{◌≡◌, ℕ, zero, suc, ◌≤◌, Bool, true, false, cond, [], ◌∷◌, length, sym, ◌∙◌, subst, arith, inl, inr, lit<, Option, Some, None, IsNone, unwrap_or}
+use Rattle.std.proofs.Common.{◌≡◌, ℕ, zero, suc, ◌≤◌, ◌-◌, Bool, true, false, cond, [], ◌∷◌, length, sym, ◌∙◌, subst, arith, inl, inr, lit<, Option, Some, None, IsNone, unwrap_or}
 use Rattle.std.proofs.lemmas.Bool.{cases_lt, false≢true}
 use Rattle.std.proofs.lemmas.Int.{ints, by_lt_z}
 use Rattle.std.specs.Prelude.{ℤ, pos, negsuc, ◌≤ℤ◌, All}
@@ -10,13 +10,14 @@ use Rattle.std.specs.Int.RustNames.{FitsSigned}
 use Rattle.peano_keys.specs.declared.dim.Dim.TheVariants.{Two}
 use Rattle.peano_keys.specs.declared.cell.CellKey.{CellKey}
 use Rattle.peano_keys.specs.declared.state.State.{State}
-use Rattle.peano_keys.specs.declared.state.State.TheVariants.{Single}
+use Rattle.peano_keys.specs.declared.state.State.TheVariants.{Single, Pair, Triple, Quadruple}
 use Rattle.peano_keys.specs.declared.side.Mark.{Mark}
 use Rattle.peano_keys.specs.declared.side.Side.{Side}
 use Rattle.peano_keys.specs.declared.side.Side.TheVariants.{Same, Coarse}
-use Rattle.peano_keys.specs.Cell.{IsCell, parent_of, centre_child}
+use Rattle.peano_keys.specs.Cell.{IsCell, parent_of}
 use Rattle.peano_keys.specs.Grid.{Spacetree, IsGrid, is_refined, has_cell}
-use Rattle.peano_keys.specs.Field.{States, state_at, centre_state, value_of, covering_state, side_at, sides_of, face_on}
+use Rattle.peano_keys.specs.Sums.{weight, leaf_sum}
+use Rattle.peano_keys.specs.Field.{States, state_at, centre_state, state_like, component_of, component_mean, value_of, covering_state, side_at, sides_of, face_on}
 use Rattle.peano_keys.specs.Cell.{neighbour_of}
 use Rattle.peano_keys.specs.Next.{IsNextGrid}
 use Rattle.solver_api.specs.Step.{IsLeafOf, marks_of, new_state, source_of}
@@ -24,7 +25,10 @@ use Rattle.volume_solver.specs.Any.{updated_by, marked_by, refined_in}
 use Rattle.spacetree.specs.Counts.{cells_of}
 use Rattle.spacetree.specs.Evaluation.{OverflowsIn, CrowdsIn, IsServedStep}
 use Rattle.spacetree.proofs.Leaves.{leaf_there, parent_refined}
-use Rattle.spacetree.proofs.NextGrids.{next_is_grid, source_is_leaf}
+use Rattle.cell_sums.specs.Bounds.{LiesBetween}
+use Rattle.cell_sums.proofs.Sums.{weight_positive}
+use Rattle.cell_sums.proofs.Bounds.{floor_is_between, means_are_between}
+use Rattle.spacetree.proofs.NextGrids.{next_is_grid}
 use Rattle.demonstration.specs.Demo.{demo_solver}
 use Rattle.demonstration.specs.Laws.{IsWithin, SeesWithin, HasWithin, Begins, Leads, StaysThroughout, NeverRefused}
 use Rattle.demonstration.proofs.Kernel.{stays_between}
@@ -53,12 +57,20 @@ module _ (low high : ℤ) (fl : FitsSigned w64 low) (fh : FitsSigned w64 high) (
       let nothing : IsWithin low high (Single (pos 0)) = record { least = below; most = beyond } in
       within_either_way (IsLeafOf t c) low high (state_at f c) (has c) (λ apart. subst (λ (o : Option State). IsWithin low high (unwrap_or o (Single (pos 0)))) (sym (others c apart)) nothing)
 
-  value_within : (levels : ℕ) (t : Spacetree) (f : States) (c : CellKey) → Everywhere f → IsWithin low high (centre_state levels t f c)
-  value_within zero t f c all = all c
-  value_within (suc levels) t f c all = elim (is_refined t c) as (λ b. IsWithin low high (cond b (centre_state levels t f (centre_child t.dim c)) (state_at f c))) [
-    | true ↦ value_within levels t f (centre_child t.dim c) all
-    | false ↦ all c
-  ]
+  like_within : (s : State) (m : ℕ → ℤ) → LiesBetween low high (m 0) → IsWithin low high (state_like s m)
+  like_within (Single a) m b = record { least = b.low; most = b.high }
+  like_within (Pair a c) m b = record { least = b.low; most = b.high }
+  like_within (Triple a c d) m b = record { least = b.low; most = b.high }
+  like_within (Quadruple a c d e) m b = record { least = b.low; most = b.high }
+
+  value_within : (t : Spacetree) (f : States) (c : CellKey) → Everywhere f → IsWithin low high (value_of t f c)
+  value_within t f c all =
+      let n : ℕ = 12 - c.level in
+      let sums = (means_are_between t (component_of f 0) low high (λ q. record { low = (all q).least; high = (all q).most }) n c).0 in
+      elim (is_refined t c) as (λ b. IsWithin low high (cond b (state_like (centre_state n t f c) (component_mean 12 t f c)) (state_at f c))) [
+        | true ↦ like_within (centre_state n t f c) (component_mean 12 t f c) (floor_is_between low high (leaf_sum t (component_of f 0) n c) (weight t.dim n) (weight_positive t.dim n) sums)
+        | false ↦ all c
+      ]
 
   cover_within : (levels : ℕ) (t : Spacetree) (f : States) (c : CellKey) → Everywhere f → IsWithin low high (covering_state levels t f c)
   cover_within zero t f c all = all c
@@ -70,7 +82,7 @@ module _ (low high : ℤ) (fl : FitsSigned w64 low) (fh : FitsSigned w64 high) (
   side_within : (t : Spacetree) (f : States) (place : Option CellKey) → Everywhere f → SeesWithin low high (side_at t f place)
   side_within t f None all = tt
   side_within t f (Some n) all = elim (has_cell t n) as (λ b. SeesWithin low high (cond b (Same (value_of t f n)) (Coarse (covering_state n.level t f n)))) [
-    | true ↦ value_within _ t f n all
+    | true ↦ value_within t f n all
     | false ↦ cover_within n.level t f n all
   ]
 
@@ -110,12 +122,12 @@ module _ (low high : ℤ) (fl : FitsSigned w64 low) (fh : FitsSigned w64 high) (
   next_moment t f u g m served = record {
     dim = served.step.grid.dim ∙ m.dim;
     grid = next_grid t f u m served.step.grid;
-    all = everywhere u g (λ c leaf.
-        let source : CellKey = source_of t c in
-        let old : IsLeafOf t source = source_is_leaf t u (marks t f) c (deeper t m.grid) served.step.grid leaf in
-        let made = updates t f source m.all (leaf_level t source m.grid old) in
-        subst (λ (o : Option State). IsWithin low high (unwrap_or o (Single (pos 0)))) (sym (served.step.leaves c leaf ∙ made.1)) made.2) served.step.others;
-  }
+    all = everywhere u g (λ c leaf. subst (λ (o : Option State). IsWithin low high (unwrap_or o (Single (pos 0)))) (sym (served.step.leaves c leaf)) (value_within t served.step.states (source_of t c) (made t f u g m served))) served.step.others;
+  } where
+    made : (t : Spacetree) (f : States) (u : Spacetree) (g : States) (m : IsMoment t f) (served : IsServedStep (updated_by demo_solver) (marked_by demo_solver) t f u g) → Everywhere served.step.states
+    made t f u g m served = everywhere t served.step.states (λ c leaf.
+        let new = updates t f c m.all (leaf_level t c m.grid leaf) in
+        subst (λ (o : Option State). IsWithin low high (unwrap_or o (Single (pos 0)))) (sym (served.step.made.leaves c leaf ∙ new.1)) new.2) served.step.made.others
 
   moments : (t : Spacetree) (f : States) (steps : ℕ) (u : Spacetree) (g : States) → IsMoment t f → Leads t f steps u g → IsMoment u g
   moments t f zero u g m told = subst (λ (h : States). IsMoment u h) (sym told.1) (subst (λ (s : Spacetree). IsMoment s f) (sym told.0) m)

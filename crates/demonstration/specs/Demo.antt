@@ -14,7 +14,13 @@ use Rattle.demonstration.specs.Draws.{draw}
 
 -- a fill of two by two cells of level 3 from the cell at `x` and `y` on, with a value from -1000 on
 abbrev pub fill_by : ℕ → ℕ → ℕ → Fill
-fill_by x y v = record { level = 3; from = triple x y 0; to = triple (x + 2) (y + 2) 0; value = Single (pos v -ℤ pos 1000) }
+fill_by x y v =
+    record {
+      level = 3;
+      from = triple x y 0;
+      to = triple (x + 2) (y + 2) 0;
+      value = Single (pos v -ℤ pos 1000);
+    }
 
 -- the box of the one cell of level 3 at `x` and `y`, refined down to level 5
 abbrev pub zone_by : ℕ → ℕ → Zone

@@ -17,13 +17,17 @@ corner x = array (item (number (slice_index x 0)) (item (number (slice_index x 1
 
 -- the table of a fill of one value, and that of a box to refine
 abbrev pub fill_table : Fill → Members
-fill_table b = member (codes "from") (corner b.from) (member (codes "level") (number b.level) (member (codes "to") (corner b.to)
-    (member (codes "value") (array (item (integer (value_at b.value 0)) no_items)) no_members)))
+fill_table b = member (codes "from") (corner b.from)
+    (member (codes "level") (number b.level)
+    (member (codes "to") (corner b.to)
+    (member (codes "value")
+    (array (item (integer (value_at b.value 0)) no_items)) no_members)))
 
 -- the table of a box to refine
 abbrev pub zone_table : Zone → Members
-zone_table z = member (codes "from") (corner z.from) (member (codes "level") (number z.level) (member (codes "to") (corner z.to)
-    (member (codes "until") (number z.until) no_members)))
+zone_table z = member (codes "from") (corner z.from)
+    (member (codes "level") (number z.level)
+    (member (codes "to") (corner z.to) (member (codes "until") (number z.until) no_members)))
 
 -- a list of tables
 abbrev pub tables : List Members → Items
@@ -36,9 +40,14 @@ criterion_table = member (codes "hi") (number 100) (member (codes "lo") (number 
 
 -- the keys that do not depend on the number
 abbrev pub fixed_keys : Members
-fixed_keys = member (codes "a") (number 1) (member (codes "b") (number 295245) (member (codes "base") (number 3)
+fixed_keys = member (codes "a") (number 1)
+    (member (codes "b") (number 295245)
+    (member (codes "base") (number 3)
     (member (codes "criterion") (table criterion_table)
-    (member (codes "depth") (number 5) (member (codes "dim") (number 2) (member (codes "solver") (string (codes "diffuse")) (member (codes "steps") (number 20) no_members)))))))
+    (member (codes "depth") (number 5)
+    (member (codes "dim") (number 2)
+    (member (codes "solver") (string (codes "diffuse"))
+    (member (codes "steps") (number 20) no_members)))))))
 
 -- the document of demonstration `n`: these, its fills and its boxes
 abbrev pub document : ℕ → Members

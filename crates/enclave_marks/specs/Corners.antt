@@ -16,6 +16,7 @@ TellsRefined dim w s k = IsSome (adjacent_of dim w k) × (slot_tells false (slot
 
 -- a corner that is not stored, one that another tree has too, or one whose record tells of a refined cell
 abbrev pub ShowsBorder : Cuts → ℕ → VertexKey → Corner → Type 0
-ShowsBorder k t w (Vertex s) = IsShared k t w ⊎ ((n : ℕ) × (n < corners k.dim) × TellsRefined k.dim w s n)
+ShowsBorder k t w (Vertex s) = IsShared k t w
+    ⊎ ((n : ℕ) × (n < corners k.dim) × TellsRefined k.dim w s n)
 ShowsBorder k t w (Hanging v) = Unit {0}
 ShowsBorder k t w Beyond = Unit {0}

@@ -68,8 +68,14 @@ pub fn is_enclave(view: &CellView, keys: &Keys, tree: u32) -> bool
     requires cell { IsCell keys.now.dim view.now.key }
     requires level { view.now.key.level ≤ keys.now.depth }
     requires tree { tree < (cuts_of keys.now).trees }
-    ensures enclave { (g : Spacetree) → g.dim ≡ keys.now.dim → Shows keys.now.dim (Some g) g false view.now → OwnsLeaf (cuts_of keys.now) g tree view.now.key → IsTrue result ↔ IsEnclave (cuts_of keys.now) g tree view.now.key }
-    ensures skeleton { (g : Spacetree) → g.dim ≡ keys.now.dim → Shows keys.now.dim (Some g) g false view.now → OwnsLeaf (cuts_of keys.now) g tree view.now.key → IsFalse result ↔ IsSkeleton (cuts_of keys.now) g tree view.now.key }
+    ensures enclave { (g : Spacetree) → g.dim ≡ keys.now.dim
+        → Shows keys.now.dim (Some g) g false view.now
+        → OwnsLeaf (cuts_of keys.now) g tree view.now.key
+        → IsTrue result ↔ IsEnclave (cuts_of keys.now) g tree view.now.key }
+    ensures skeleton { (g : Spacetree) → g.dim ≡ keys.now.dim
+        → Shows keys.now.dim (Some g) g false view.now
+        → OwnsLeaf (cuts_of keys.now) g tree view.now.key
+        → IsFalse result ↔ IsSkeleton (cuts_of keys.now) g tree view.now.key }
 {
     let dim = keys.dim();
     let alone = keys.has_round(view.key, tree);

@@ -28,7 +28,8 @@ row_line dim row = key_text dim row.key ++ flat_map spaced_value (values_of row.
 
 -- the head line: the step and the number of leaves
 abbrev pub head_line : ℕ → ℕ → List ℕ
-head_line step leaves = codes "step " ++ decimal step ++ codes " leaves " ++ decimal leaves ++ 10 ∷ []
+head_line step leaves = codes "step " ++ decimal step ++ codes " leaves " ++ decimal leaves ++ 10
+    ∷ []
 
 -- the field block of a step: the head line, and the line of each row, in order
 abbrev pub field_block : Dim → ℕ → List Row → List ℕ

@@ -25,7 +25,8 @@ count_level rows level = count_by (λ (row : Row). row.key.level == level) rows
 
 -- the line of a level
 abbrev pub level_line : List Row → ℕ → List ℕ
-level_line rows level = codes "level " ++ decimal level ++ codes " leaves " ++ decimal (count_level rows level) ++ 10 ∷ []
+level_line rows level = codes "level " ++ decimal level ++ codes " leaves "
+    ++ decimal (count_level rows level) ++ 10 ∷ []
 
 -- the lines before those of levels: the number of the demonstration and its 20 steps
 abbrev pub demo_lines : ℕ → List ℕ
@@ -33,11 +34,13 @@ demo_lines n = codes "demo " ++ decimal n ++ codes "\nsteps 20\n"
 
 -- then the cells and the leaves
 abbrev pub count_lines : ℕ → ℕ → List ℕ
-count_lines cells leaves = codes "cells " ++ decimal cells ++ codes "\nleaves " ++ decimal leaves ++ codes "\n"
+count_lines cells leaves = codes "cells " ++ decimal cells ++ codes "\nleaves " ++ decimal leaves
+    ++ codes "\n"
 
 -- then the least and the greatest value of a leaf
 abbrev pub range_lines : ℤ → ℤ → List ℕ
-range_lines low high = codes "low " ++ signed_decimal low ++ codes "\nhigh " ++ signed_decimal high ++ codes "\n"
+range_lines low high = codes "low " ++ signed_decimal low ++ codes "\nhigh " ++ signed_decimal high
+    ++ codes "\n"
 
 -- the summary: these, and a line for each level down to the fifth
 pub record IsSummary (n cells : ℕ) (rows : List Row) (text : List ℕ) : Type 0 where
@@ -46,4 +49,5 @@ pub record IsSummary (n cells : ℕ) (rows : List Row) (text : List ℕ) : Type 
   pub is_low : IsLow rows low
   pub is_high : IsHigh rows high
   pub lines : text
-      ≡ demo_lines n ++ count_lines cells (length rows) ++ range_lines low high ++ flat_map (level_line rows) (0 ∷ 1 ∷ 2 ∷ 3 ∷ 4 ∷ 5 ∷ [])
+      ≡ demo_lines n ++ count_lines cells (length rows) ++ range_lines low high
+      ++ flat_map (level_line rows) (0 ∷ 1 ∷ 2 ∷ 3 ∷ 4 ∷ 5 ∷ [])

@@ -29,7 +29,9 @@ fn push_value(text: &mut String, value: i64) -> Result<(), AllocError>
 
 // Appends the values of a state.
 fn push_values(text: &mut String, state: &State) -> Result<(), AllocError>
-    ensures { OnOk result (string_bytes text.new ≡ string_bytes text.old ++ flat_map spaced_value (values_of state.now)) }
+    ensures { OnOk result
+        (string_bytes text.new
+        ≡ string_bytes text.old ++ flat_map spaced_value (values_of state.now)) }
 {
     for i in 0..state.count() {
         push_value(text, state.get(i))?;

@@ -57,7 +57,8 @@ fn leaves_of(rows: &[Row], level: u32) -> usize
 
 // Appends the line of a level.
 fn push_level(text: &mut String, rows: &[Row], level: u32) -> Result<(), AllocError>
-    ensures { OnOk result (string_bytes text.new ≡ string_bytes text.old ++ level_line rows.now level) }
+    ensures { OnOk result
+        (string_bytes text.new ≡ string_bytes text.old ++ level_line rows.now level) }
 {
     let leaves = leaves_of(rows, level);
     writeln!(text, "level {level} leaves {leaves}")
@@ -65,7 +66,10 @@ fn push_level(text: &mut String, rows: &[Row], level: u32) -> Result<(), AllocEr
 
 // Appends the lines of all levels.
 fn push_levels(text: &mut String, rows: &[Row]) -> Result<(), AllocError>
-    ensures { OnOk result (string_bytes text.new ≡ string_bytes text.old ++ flat_map (level_line rows.now) (0 ∷ 1 ∷ 2 ∷ 3 ∷ 4 ∷ 5 ∷ [])) }
+    ensures { OnOk result
+        (string_bytes text.new
+        ≡ string_bytes text.old
+        ++ flat_map (level_line rows.now) (0 ∷ 1 ∷ 2 ∷ 3 ∷ 4 ∷ 5 ∷ [])) }
 {
     for level in LEVELS {
         push_level(text, rows, level)?;
@@ -82,7 +86,8 @@ fn push_demo(text: &mut String, n: u64) -> Result<(), AllocError>
 
 // Appends the lines of counts.
 fn push_counts(text: &mut String, cells: u64, leaves: usize) -> Result<(), AllocError>
-    ensures { OnOk result (string_bytes text.new ≡ string_bytes text.old ++ count_lines cells leaves) }
+    ensures { OnOk result
+        (string_bytes text.new ≡ string_bytes text.old ++ count_lines cells leaves) }
 {
     writeln!(text, "cells {cells}\nleaves {leaves}")
 }

@@ -33,7 +33,8 @@ fn push_held(text: &mut String, traffic: &Traffic) -> Result<(), AllocError>
 
 // Appends what a sweep of it moves, and what hangs.
 fn push_moved(text: &mut String, traffic: &Traffic) -> Result<(), AllocError>
-    ensures { OnOk result (string_bytes text.new ≡ string_bytes text.old ++ moved_text traffic.now) }
+    ensures { OnOk result
+        (string_bytes text.new ≡ string_bytes text.old ++ moved_text traffic.now) }
 {
     let Traffic {
         pushes,
@@ -45,7 +46,8 @@ fn push_moved(text: &mut String, traffic: &Traffic) -> Result<(), AllocError>
 
 // Appends its leaves of both kinds, and what it sends.
 fn push_shared(text: &mut String, traffic: &Traffic) -> Result<(), AllocError>
-    ensures { OnOk result (string_bytes text.new ≡ string_bytes text.old ++ shared_text traffic.now) }
+    ensures { OnOk result
+        (string_bytes text.new ≡ string_bytes text.old ++ shared_text traffic.now) }
 {
     let Traffic {
         enclave,
@@ -67,7 +69,8 @@ fn push_tree(text: &mut String, traffic: &Traffic) -> Result<(), AllocError>
 
 // Appends the head line.
 fn push_head(text: &mut String, step: u32, trees: usize) -> Result<(), AllocError>
-    ensures { OnOk result (string_bytes text.new ≡ string_bytes text.old ++ traffic_head step trees) }
+    ensures { OnOk result
+        (string_bytes text.new ≡ string_bytes text.old ++ traffic_head step trees) }
 {
     writeln!(text, "traffic {step} trees {trees}")
 }

@@ -26,14 +26,16 @@ pub record NextAcross (dir : Direction) (dim : Dim) (c : CellKey) (n i : ℕ) : 
   pub round : NextRound dir dim (corner_of c n) c next
 
 -- in the run of a corner in a range, the neighbour across the corner's face on an axis comes right after the cell
-pub record FollowsAcross (dir : Direction) (dim : Dim) (r : Range) (depth : ℕ) (c : CellKey) (n i : ℕ) : Type 0 where
+pub record FollowsAcross (dir : Direction) (dim : Dim) (r : Range) (depth : ℕ) (c : CellKey)
+    (n i : ℕ) : Type 0 where
   pub next : CellKey
   pub in_use : i < axes dim
   pub across : IsAcross c n i next
   pub follows : Follows dir dim (corner_of c n) r depth c next
 
 -- and one comes right before it
-pub record PrecedesAcross (dir : Direction) (dim : Dim) (r : Range) (depth : ℕ) (c : CellKey) (n i : ℕ) : Type 0 where
+pub record PrecedesAcross (dir : Direction) (dim : Dim) (r : Range) (depth : ℕ) (c : CellKey)
+    (n i : ℕ) : Type 0 where
   pub previous : CellKey
   pub in_use : i < axes dim
   pub across : IsAcross c n i previous
@@ -50,7 +52,8 @@ HasAllRound dim depth r c = (q : CellKey) → IsCell dim q → AreBeside c q
     → HasAll r (interval_of dim q depth)
 
 -- what a cell knows of the cells round it: how the curve crosses its faces, and where it says so, that the range has all round it
-pub record Surround (dir : Direction) (dim : Dim) (r : Range) (depth : ℕ) (c : CellKey) (s : Surroundings) : Type 0 where
+pub record Surround (dir : Direction) (dim : Dim) (r : Range) (depth : ℕ) (c : CellKey)
+    (s : Surroundings) : Type 0 where
   pub faces : s.faces ≡ faces_of dir dim c
   pub whole : s.whole ≡ true → HasAllRound dim depth r c
 

@@ -16,7 +16,9 @@ use Rattle.handed_down.specs.declared.faces.Faces.{Faces}
 -- on one axis of cells of a level, the others at p and q: the age of the plane between x and y, which is the level of the cells that it divides inside one parent, where the curve comes to y after x; else 0
 abbrev pub age_of : Direction → ℕ → ℕ → ℕ → ℕ → ℕ → ℕ
 age_of dir zero p q x y = 0
-age_of dir (suc l) p q x y = if x / 3 == y / 3 then (if is_before dir (turned (p + q) (x % 3)) (turned (p + q) (y % 3)) then suc l else 0) else age_of dir l (p / 3) (q / 3) (x / 3) (y / 3)
+age_of dir (suc l) p q x y = if x / 3 == y / 3
+    then (if is_before dir (turned (p + q) (x % 3)) (turned (p + q) (y % 3)) then suc l else 0)
+    else age_of dir l (p / 3) (q / 3) (x / 3) (y / 3)
 
 -- how the curve crosses a face, by the age of its plane where the neighbour comes later, and where it comes earlier
 abbrev pub crossing_by : ℕ → ℕ → Crossing
@@ -35,14 +37,22 @@ third_crossing Three a = a
 
 -- an axis before another one turns with its place in the cell, one after it with that of the parent
 abbrev pub faces_of : Direction → Dim → CellKey → Faces
-faces_of dir dim c = record {
-  low = crossing_of dir c.level (at c 1 / 3) (at c 2 / 3) (at c 0) (at c 0 - 1) ∷ crossing_of dir c.level (at c 0) (at c 2 / 3) (at c 1) (at c 1 - 1) ∷ third_crossing dim (crossing_of dir c.level (at c 0) (at c 1) (at c 2) (at c 2 - 1)) ∷ [];
-  high = crossing_of dir c.level (at c 1 / 3) (at c 2 / 3) (at c 0) (at c 0 + 1) ∷ crossing_of dir c.level (at c 0) (at c 2 / 3) (at c 1) (at c 1 + 1) ∷ third_crossing dim (crossing_of dir c.level (at c 0) (at c 1) (at c 2) (at c 2 + 1)) ∷ [];
-}
+faces_of dir dim c =
+    record {
+      low = crossing_of dir c.level (at c 1 / 3) (at c 2 / 3) (at c 0) (at c 0 - 1)
+          ∷ crossing_of dir c.level (at c 0) (at c 2 / 3) (at c 1) (at c 1 - 1)
+          ∷ third_crossing dim (crossing_of dir c.level (at c 0) (at c 1) (at c 2) (at c 2 - 1))
+          ∷ [];
+      high = crossing_of dir c.level (at c 1 / 3) (at c 2 / 3) (at c 0) (at c 0 + 1)
+          ∷ crossing_of dir c.level (at c 0) (at c 2 / 3) (at c 1) (at c 1 + 1)
+          ∷ third_crossing dim (crossing_of dir c.level (at c 0) (at c 1) (at c 2) (at c 2 + 1))
+          ∷ [];
+    }
 
 -- the face on an axis, at corner `n`
 abbrev pub face_at : Faces → ℕ → ℕ → Crossing
-face_at a n i = if bit_of n i == 1 then slice_index_or a.high i Wall else slice_index_or a.low i Wall
+face_at a n i = if bit_of n i == 1 then slice_index_or a.high i Wall
+    else slice_index_or a.low i Wall
 
 -- the age of a face by which the curve goes on, else 0
 abbrev pub age_out : Crossing → ℕ

@@ -16,7 +16,11 @@ count_below Three = 64
 
 -- vertex number `j` of a cell's children: axis 0 is fastest
 abbrev pub vertex_below : CellKey → ℕ → VertexKey
-vertex_below c j = record { level = c.level + 1; v = triple (3 * at c 0 + j % 4) (3 * at c 1 + j / 4 % 4) (3 * at c 2 + j / 16) }
+vertex_below c j =
+    record {
+      level = c.level + 1;
+      v = triple (3 * at c 0 + j % 4) (3 * at c 1 + j / 4 % 4) (3 * at c 2 + j / 16);
+    }
 
 -- of the first `i` vertices of a cell's children it is told which are stored, in the old grid, or with `after` in the new one
 abbrev pub TellsBelow : Bool → Option Spacetree → Spacetree → CellKey → List Bool → ℕ → Type 0
@@ -29,4 +33,5 @@ told_of told after = if after then told.new_grid else told.old_grid
 
 -- of all vertices of a cell's children it is told which are stored in the old grid, or with `after` in the new one
 abbrev pub TellsAll : Dim → Bool → Option Spacetree → Spacetree → CellKey → ChildVertices → Type 0
-TellsAll dim after old new c told = TellsBelow after old new c (told_of told after) (count_below dim)
+TellsAll dim after old new c told =
+    TellsBelow after old new c (told_of told after) (count_below dim)

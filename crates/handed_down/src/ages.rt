@@ -130,7 +130,8 @@ pub fn next_axis(faces: &Faces, n: u32) -> Option<u32>
     requires { n < 8 }
     ensures { (dir : Direction) (dim : Dim) (c : CellKey) → IsCell dim c → n < corners dim
         → faces.now ≡ faces_of dir dim c
-        → MatchOption result (NoneLaterRound dir dim (corner_of c n) c) (λ i. NextAcross dir dim c n i) }
+        → MatchOption result (NoneLaterRound dir dim (corner_of c n) c)
+        (λ i. NextAcross dir dim c n i) }
 {
     youngest(
         faces.age_out(n, 0),
@@ -145,7 +146,8 @@ pub fn previous_axis(faces: &Faces, n: u32) -> Option<u32>
     requires { n < 8 }
     ensures { (dir : Direction) (dim : Dim) (c : CellKey) → IsCell dim c → n < corners dim
         → faces.now ≡ faces_of dir dim c
-        → MatchOption result (NoneLaterRound (turned_round dir) dim (corner_of c n) c) (λ i. NextAcross (turned_round dir) dim c n i) }
+        → MatchOption result (NoneLaterRound (turned_round dir) dim (corner_of c n) c)
+        (λ i. NextAcross (turned_round dir) dim c n i) }
 {
     youngest(faces.age_in(n, 0), faces.age_in(n, 1), faces.age_in(n, 2))
 }

@@ -28,10 +28,13 @@ fn held_across(
     requires depth { depth ≤ 12 }
     requires corner { n < 8 }
     requires next { (dir : Direction)
-        × MatchOption next (NoneLaterRound dir dim (corner_of cell n) cell) (λ i. NextAcross dir dim cell n i) }
+        × MatchOption next (NoneLaterRound dir dim (corner_of cell n) cell)
+        (λ i. NextAcross dir dim cell n i) }
     ensures { (dir : Direction)
-        → MatchOption next (NoneLaterRound dir dim (corner_of cell n) cell) (λ i. NextAcross dir dim cell n i)
-        → MatchOption result (IsLast dir dim (corner_of cell n) range.now depth cell) (λ i. FollowsAcross dir dim range.now depth cell n i) }
+        → MatchOption next (NoneLaterRound dir dim (corner_of cell n) cell)
+        (λ i. NextAcross dir dim cell n i)
+        → MatchOption result (IsLast dir dim (corner_of cell n) range.now depth cell)
+        (λ i. FollowsAcross dir dim range.now depth cell n i) }
 {
     let axis = next?;
     let face = Face {
@@ -62,7 +65,8 @@ pub fn next_of_run(
     requires above { cell.level ≤ depth }
     requires depth { depth ≤ 12 }
     requires around { Surround dir dim range.now depth cell around.now }
-    ensures { MatchOption result (IsLast dir dim (corner_of cell n) range.now depth cell) (λ i. FollowsAcross dir dim range.now depth cell n i) }
+    ensures { MatchOption result (IsLast dir dim (corner_of cell n) range.now depth cell)
+        (λ i. FollowsAcross dir dim range.now depth cell n i) }
 {
     let next = next_axis(&around.faces, n);
     if around.whole {
@@ -88,7 +92,8 @@ pub fn previous_of_run(
     requires above { cell.level ≤ depth }
     requires depth { depth ≤ 12 }
     requires around { Surround dir dim range.now depth cell around.now }
-    ensures { MatchOption result (IsFirst dir dim (corner_of cell n) range.now depth cell) (λ i. PrecedesAcross dir dim range.now depth cell n i) }
+    ensures { MatchOption result (IsFirst dir dim (corner_of cell n) range.now depth cell)
+        (λ i. PrecedesAcross dir dim range.now depth cell n i) }
 {
     let previous = previous_axis(&around.faces, n);
     if around.whole {

@@ -11,6 +11,7 @@ use crate::{
 use peano_curve::{Direction, Range, interval};
 use peano_keys::{CellKey, Dim, Mark, Side, Sides, State, adjacent, corner, is_cell};
 use peano_records::{CellView, Corner, Intent, Slot, Status, Stored};
+use std::process::Abort;
 
 // What is asked of a corner of a cell, and what is wanted: the axes to the next and from the previous cell of its run.
 #[derive(Clone, Copy)]
@@ -32,14 +33,59 @@ const FOUR: Range = Range { lo: 0, hi: 4 };
 
 const ALL_OF_SPACE: Range = Range { lo: 0, hi: 27 };
 
-fn in_plane(
-    name: &'static str,
-    range: Range,
-    x: [u32; 3],
-    n: u32,
-    next: Option<u32>,
-    previous: Option<u32>,
-) -> Row {
+// A row of the plane in the forward direction: its name, the range, the cell, the corner, and the two axes.
+type InPlane = (&'static str, Range, [u32; 3], u32, Option<u32>, Option<u32>);
+
+// The nine children of the root in a plane are visited in columns: up, down, up.
+const RUNS_IN_PLANE: [InPlane; 8] = [
+    ("the first of four", NINE, [0, 0, 0], 3, Some(1), None),
+    ("the second of four", NINE, [0, 1, 0], 1, Some(0), Some(1)),
+    ("the third of four", NINE, [1, 1, 0], 0, Some(1), Some(0)),
+    ("the last of four", NINE, [1, 0, 0], 2, None, Some(1)),
+    ("at the domain's corner", NINE, [0, 0, 0], 0, None, None),
+    ("at the domain's edge", NINE, [0, 2, 0], 3, Some(0), None),
+    ("before the cut", FOUR, [0, 1, 0], 1, None, Some(1)),
+    ("across the cut", FOUR, [0, 1, 0], 3, Some(1), None),
+];
+
+const OTHER_RUNS: [Row; 3] = [
+    Row {
+        name: "the second of four, backward",
+        dim: Dim::Two,
+        dir: Direction::Backward,
+        range: NINE,
+        level: 1,
+        x: [1, 1, 0],
+        n: 0,
+        next: Some(0),
+        previous: Some(1),
+    },
+    Row {
+        name: "the first of eight in space",
+        dim: Dim::Three,
+        dir: Direction::Forward,
+        range: ALL_OF_SPACE,
+        level: 1,
+        x: [0, 0, 0],
+        n: 7,
+        next: Some(2),
+        previous: None,
+    },
+    Row {
+        name: "the second of eight in space",
+        dim: Dim::Three,
+        dir: Direction::Forward,
+        range: ALL_OF_SPACE,
+        level: 1,
+        x: [0, 0, 1],
+        n: 3,
+        next: Some(1),
+        previous: Some(2),
+    },
+];
+
+fn in_plane(row: &InPlane) -> Row {
+    let (name, range, x, n, next, previous) = *row;
     Row {
         name,
         dim: Dim::Two,
@@ -62,95 +108,36 @@ fn is_in_run(asked: &Row, cell: CellKey) -> bool
     interval(asked.dim, cell, 1).meets(&asked.range)
 }
 
+fn check_run<R: Abort>(rt: &R, asked: &Row) {
+    let Row {
+        name,
+        dim,
+        dir,
+        n,
+        ..
+    } = *asked;
+    let cell = CellKey {
+        level: asked.level,
+        x: asked.x,
+    };
+    assert!(rt; is_cell(dim, &cell));
+    assert!(rt; asked.level == 1);
+    assert!(rt; n < 4 || (n < 8 && matches!(dim, Dim::Three)));
+    assert!(rt; is_in_run(asked, cell));
+    let around = Surroundings::of_cell(dim, dir, 1, &asked.range, cell);
+    let next = next_of_run(&around, dim, dir, 1, &asked.range, cell, n);
+    assert_eq!(rt; next, asked.next, "{name}: next");
+    let previous = previous_of_run(&around, dim, dir, 1, &asked.range, cell, n);
+    assert_eq!(rt; previous, asked.previous, "{name}: previous");
+}
+
 #[test]
 fn runs_of_corners(rt: HostRuntime) {
-    // The nine children of the root in a plane are visited in columns: up, down, up.
-    for asked in [
-        in_plane("the first of four", NINE, [0, 0, 0], 3, Some(1), None),
-        in_plane("the second of four", NINE, [0, 1, 0], 1, Some(0), Some(1)),
-        in_plane("the third of four", NINE, [1, 1, 0], 0, Some(1), Some(0)),
-        in_plane("the last of four", NINE, [1, 0, 0], 2, None, Some(1)),
-        in_plane("at the domain's corner", NINE, [0, 0, 0], 0, None, None),
-        in_plane("at the domain's edge", NINE, [0, 2, 0], 3, Some(0), None),
-        in_plane(
-            "the cut after four, before it",
-            FOUR,
-            [0, 1, 0],
-            1,
-            None,
-            Some(1),
-        ),
-        in_plane(
-            "the cut after four, on the other side of a vertex",
-            FOUR,
-            [0, 1, 0],
-            3,
-            Some(1),
-            None,
-        ),
-        Row {
-            dir: Direction::Backward,
-            ..in_plane(
-                "the second of four, backward",
-                NINE,
-                [1, 1, 0],
-                0,
-                Some(0),
-                Some(1),
-            )
-        },
-        Row {
-            dim: Dim::Three,
-            ..in_plane(
-                "the first of eight in space",
-                ALL_OF_SPACE,
-                [0, 0, 0],
-                7,
-                Some(2),
-                None,
-            )
-        },
-        Row {
-            dim: Dim::Three,
-            ..in_plane(
-                "the second of eight in space",
-                ALL_OF_SPACE,
-                [0, 0, 1],
-                3,
-                Some(1),
-                Some(2),
-            )
-        },
-    ] {
-        let cell = CellKey {
-            level: asked.level,
-            x: asked.x,
-        };
-        assert!(rt; is_cell(asked.dim, &cell));
-        assert!(rt; asked.level == 1);
-        assert!(rt; asked.n < 4 || (asked.n < 8 && matches!(asked.dim, Dim::Three)));
-        assert!(rt; is_in_run(&asked, cell));
-        let around = Surroundings::of_cell(asked.dim, asked.dir, 1, &asked.range, cell);
-        let next = next_of_run(
-            &around,
-            asked.dim,
-            asked.dir,
-            1,
-            &asked.range,
-            cell,
-            asked.n,
-        );
-        assert_eq!(rt; next, asked.next, "{}: next", asked.name);
-        let previous = previous_of_run(
-            &around,
-            asked.dim,
-            asked.dir,
-            1,
-            &asked.range,
-            cell,
-            asked.n,
-        );
-        assert_eq!(rt; previous, asked.previous, "{}: previous", asked.name);
+    for row in &RUNS_IN_PLANE {
+        check_run(&rt, &in_plane(row));
+    }
+    for asked in &OTHER_RUNS {
+        check_run(&rt, asked);
     }
 }
 

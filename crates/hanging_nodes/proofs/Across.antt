@@ -12,7 +12,7 @@ use Rattle.peano_keys.specs.Dim.{axes, corners}
 use Rattle.peano_keys.specs.Cell.{IsCell, parent_of, neighbour_of}
 use Rattle.peano_keys.specs.Vertex.{corner_of, adjacent_of, anchor_of, slot_from}
 use Rattle.peano_keys.specs.Grid.{Spacetree, IsStored, is_refined, has_cell}
-use Rattle.peano_keys.specs.Field.{States, state_at, centre_state, value_of, covering_state, side_at, side_of}
+use Rattle.peano_keys.specs.Field.{States, state_at, value_of, covering_state, side_at, side_of}
 use Rattle.peano_keys.specs.Laws.{opposite}
 use Rattle.peano_keys.proofs.Anchors.{anchor_is_stored}
 use Rattle.peano_records.specs.Slots.{VertexRecord, slot_at}
@@ -42,13 +42,12 @@ module _ (t : Spacetree) (f : States) where
   covering_up zero c l h = absurd (omega (arith, l))
   covering_up (suc k) c l h = ap (λ b. cond b (state_at f c) (covering_state k t f (parent_of c))) h ∙ (let e : k ≡ suc k - 1 = omega arith in ap (λ j. covering_state j t f (parent_of c)) e)
 
-  value_leaf : (k : ℕ) (c : CellKey) → is_refined t c ≡ false → centre_state k t f c ≡ state_at f c
-  value_leaf zero c h = refl
-  value_leaf (suc k) c h = rw h refl
+  value_leaf : (c : CellKey) → is_refined t c ≡ false → value_of t f c ≡ state_at f c
+  value_leaf c h = rw h refl
 
   -- the parent's side where the neighbour is no cell
   coarse_above : (m : CellKey) (b : Bool) → has_cell t m ≡ b → is_refined t m ≡ false → Coarse (covering_state m.level t f m) ≡ coarsened (cond b (Same (value_of t f m)) (Coarse (covering_state m.level t f m)))
-  coarse_above m true h leaf = ap Coarse (covering_there m.level m h ∙ sym (value_leaf (12 - m.level) m leaf))
+  coarse_above m true h leaf = ap Coarse (covering_there m.level m h ∙ sym (value_leaf m leaf))
   coarse_above m false h leaf = refl
 
   coarse_side : (q n : CellKey) (face : Face) → 0 < q.level → is_refined t (parent_of q) ≡ true → IsNeighbour t.dim q face n → has_cell t n ≡ false → side_at t f (Some n) ≡ coarsened (side_of t f (parent_of q) face)

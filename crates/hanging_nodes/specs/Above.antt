@@ -25,7 +25,12 @@ plane_above x v = if v == 3 * x then x else (if v == 3 * x + 3 then x + 1 else x
 
 -- the corner of a cell that decides on a vertex of its children
 abbrev pub corner_above : CellKey → VertexKey → VertexKey
-corner_above c v = record { level = c.level; v = triple (plane_above (at c 0) (plane v 0)) (plane_above (at c 1) (plane v 1)) (plane_above (at c 2) (plane v 2)) }
+corner_above c v =
+    record {
+      level = c.level;
+      v = triple (plane_above (at c 0) (plane v 0)) (plane_above (at c 1) (plane v 1))
+          (plane_above (at c 2) (plane v 2));
+    }
 
 -- the cells that decide: those of the domain that touch this corner and whose closed region holds the vertex
 pub record IsDecider (dim : Dim) (c : CellKey) (v : VertexKey) (z : CellKey) : Type 0 where
@@ -43,4 +48,6 @@ DecidersThere t c v = (z : CellKey) → IsDecider t.dim c v z → has_cell t z �
 
 -- the record of this corner tells of each of them among the first `n` positions that it is refined, in the old grid or with `after` in the new one
 abbrev pub AllAllow : Dim → CellKey → VertexKey → VertexRecord → Bool → ℕ → Type 0
-AllAllow dim c v s after n = (k : ℕ) → k < n → IfSome (adjacent_of dim (corner_above c v) k) (λ q. IsDecider dim c v q → slot_tells after (slot_at s k) ≡ true)
+AllAllow dim c v s after n = (k : ℕ) → k < n
+    → IfSome (adjacent_of dim (corner_above c v) k)
+    (λ q. IsDecider dim c v q → slot_tells after (slot_at s k) ≡ true)

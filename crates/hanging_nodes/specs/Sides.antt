@@ -22,10 +22,12 @@ IsCornerOf t f w Beyond = ⊥
 
 -- eight places hold the corners of a cell, those in use first
 abbrev pub AreCornersOf : Spacetree → States → CellKey → List Corner → Type 0
-AreCornersOf t f c places = (n : ℕ) → n < corners t.dim → IsCornerOf t f (corner_of c n) (slice_index_or places n Beyond)
+AreCornersOf t f c places = (n : ℕ) → n < corners t.dim
+    → IsCornerOf t f (corner_of c n) (slice_index_or places n Beyond)
 
 -- a child of a refined cell knows its corners and its parent's sides
-pub record KnowsSides (t : Spacetree) (f : States) (child : CellKey) (above : Sides) (places : List Corner) : Type 0 where
+pub record KnowsSides (t : Spacetree) (f : States) (child : CellKey) (above : Sides)
+    (places : List Corner) : Type 0 where
   pub refined : is_refined t (parent_of child) ≡ true
   pub sides : above ≡ sides_of t f (parent_of child)
   pub corners : AreCornersOf t f child places

@@ -44,8 +44,10 @@ pub record IsOldSlot (old new : Spacetree) (after : Bool) (q : CellKey) (s : Slo
   pub split : s.intent ≡ Split → is_leaf old q ≡ true
   pub merge : s.intent ≡ Merge → is_refined old q ≡ true
   pub stay : s.intent ≡ Stay → (s.status ≡ Refined) ↔ (is_refined old q ≡ true)
-  pub splits : after ≡ true → (s.intent ≡ Split) ↔ ((is_leaf old q ≡ true) × (is_refined new q ≡ true))
-  pub merges : after ≡ true → (s.intent ≡ Merge) ↔ ((is_refined old q ≡ true) × (is_refined new q ≡ false))
+  pub splits : after ≡ true
+      → (s.intent ≡ Split) ↔ ((is_leaf old q ≡ true) × (is_refined new q ≡ true))
+  pub merges : after ≡ true
+      → (s.intent ≡ Merge) ↔ ((is_refined old q ≡ true) × (is_refined new q ≡ false))
 
 -- a slot of a vertex that is stored in the new grid alone: nothing is intended, and only cells that are refined there are said to be so
 pub record IsNewSlot (new : Spacetree) (q : CellKey) (s : Slot) : Type 0 where
@@ -60,7 +62,9 @@ pub record IsFirstSlot (new : Spacetree) (q : CellKey) (s : Slot) : Type 0 where
 -- a record is of a vertex that is stored in one of the grids, and each slot of a position inside the domain is right; what stands in the other slots is free
 abbrev pub HasSlots : Dim → Option Spacetree → Spacetree → Bool → VertexKey → VertexRecord → Type 0
 HasSlots dim None new after w s = IsStored new w × SaysOfCells dim s (IsFirstSlot new)
-HasSlots dim (Some old) new after w s = (IsStored old w ⊎ IsStored new w) × (IsStored old w → SaysOfCells dim s (IsOldSlot old new after)) × (¬ IsStored old w → SaysOfCells dim s (IsNewSlot new))
+HasSlots dim (Some old) new after w s = (IsStored old w ⊎ IsStored new w)
+    × (IsStored old w → SaysOfCells dim s (IsOldSlot old new after))
+    × (¬ IsStored old w → SaysOfCells dim s (IsNewSlot new))
 
 -- a corner is a vertex exactly where it is stored in one of the grids, and has its own key
 abbrev pub IsShown : Dim → Option Spacetree → Spacetree → Bool → VertexKey → Corner → Type 0
@@ -70,4 +74,5 @@ IsShown dim old new after w Beyond = ⊥
 
 -- a view shows the grids by its corners
 abbrev pub Shows : Dim → Option Spacetree → Spacetree → Bool → CellView → Type 0
-Shows dim old new after view = (n : ℕ) → n < corners dim → IsShown dim old new after (corner_of view.key n) (corner_at view n)
+Shows dim old new after view = (n : ℕ) → n < corners dim
+    → IsShown dim old new after (corner_of view.key n) (corner_at view n)

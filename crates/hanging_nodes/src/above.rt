@@ -90,7 +90,10 @@ fn allows(question: Question, above: VertexKey, stored: &Stored, k: u32) -> bool
     requires vertex { IsVertex question.dim above }
     requires level { question.fine.level ≡ question.cell.level + 1 }
     requires position { k < corners question.dim }
-    ensures { IsTrue result ↔ IfSome (adjacent_of question.dim (corner_above question.cell question.fine) k) (λ q. IsDecider question.dim question.cell question.fine q → slot_tells question.after (slot_at stored.now k) ≡ true) }
+    ensures { IsTrue result
+        ↔ IfSome (adjacent_of question.dim (corner_above question.cell question.fine) k)
+        (λ q. IsDecider question.dim question.cell question.fine q
+        → slot_tells question.after (slot_at stored.now k) ≡ true) }
 {
     if stored.tells(k, question.after) {
         return true;
@@ -107,7 +110,9 @@ fn all_allow(question: Question, above: VertexKey, stored: &Stored) -> bool
     requires above { above ≡ corner_above question.cell question.fine }
     requires vertex { IsVertex question.dim above }
     requires level { question.fine.level ≡ question.cell.level + 1 }
-    ensures { IsTrue result ↔ AllAllow question.dim question.cell question.fine stored.now question.after (corners question.dim) }
+    ensures { IsTrue result
+        ↔ AllAllow question.dim question.cell question.fine stored.now question.after
+        (corners question.dim) }
 {
     for k in 0..corner_count(question.dim) {
         if !allows(question, above, stored, k) {
@@ -123,7 +128,9 @@ pub fn stored_here(dim: Dim, parent: &CellView, fine: &VertexKey, after: bool) -
     requires cell { IsCell dim parent.now.key }
     requires vertex { IsVertex dim fine.now }
     requires inside { HoldsVertex parent.now.key fine.now }
-    ensures { (depth : ℕ) (old : Option Spacetree) (new : Spacetree) → AreGrids depth dim old new after → Shows dim old new after parent.now → IsTrue result ↔ IsStoredIn after old new fine.now }
+    ensures { (depth : ℕ) (old : Option Spacetree) (new : Spacetree)
+        → AreGrids depth dim old new after → Shows dim old new after parent.now
+        → IsTrue result ↔ IsStoredIn after old new fine.now }
 {
     let n = number_above(dim, parent.key, fine);
     let above = corner(dim, parent.key, n);

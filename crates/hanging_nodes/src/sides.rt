@@ -39,7 +39,9 @@ fn side_across(dim: Dim, child: CellKey, above: &Side, corners: &[Corner; 8], fa
     requires cell { IsCell dim child }
     requires below { 1 ≤ child.level }
     requires axis { face.axis < axes dim }
-    ensures { (t : Spacetree) (f : States) → t.dim ≡ dim → is_refined t (parent_of child) ≡ true → AreCornersOf t f child corners.now → above.now ≡ side_of t f (parent_of child) face → result ≡ side_of t f child face }
+    ensures { (t : Spacetree) (f : States) → t.dim ≡ dim → is_refined t (parent_of child) ≡ true
+        → AreCornersOf t f child corners.now → above.now ≡ side_of t f (parent_of child) face
+        → result ≡ side_of t f child face }
 {
     let Some(other) = neighbour(dim, child, face) else {
         return Side::Edge;
@@ -62,7 +64,9 @@ fn write_sides(
 )
     requires cell { IsCell dim child }
     requires below { 1 ≤ child.level }
-    ensures { (t : Spacetree) (f : States) → t.dim ≡ dim → is_refined t (parent_of child) ≡ true → AreCornersOf t f child corners.now → above.now ≡ sides_on t f (parent_of child) high → sides.new ≡ sides_on t f child high }
+    ensures { (t : Spacetree) (f : States) → t.dim ≡ dim → is_refined t (parent_of child) ≡ true
+        → AreCornersOf t f child corners.now → above.now ≡ sides_on t f (parent_of child) high
+        → sides.new ≡ sides_on t f child high }
 {
     let first = side_across(dim, child, &above[0], corners, Face { axis: 0, high });
     let second = side_across(dim, child, &above[1], corners, Face { axis: 1, high });
@@ -84,7 +88,8 @@ pub fn sides_into(
 )
     requires cell { IsCell dim child }
     requires below_root { 1 ≤ child.level }
-    ensures { (t : Spacetree) (f : States) → t.dim ≡ dim → KnowsSides t f child parent.now.sides corners.now → sides.new ≡ sides_of t f child }
+    ensures { (t : Spacetree) (f : States) → t.dim ≡ dim
+        → KnowsSides t f child parent.now.sides corners.now → sides.new ≡ sides_of t f child }
 {
     write_sides(
         dim,
@@ -108,7 +113,8 @@ pub fn sides_into(
 pub fn sides_of(dim: Dim, child: CellKey, parent: &CellView, corners: &[Corner; 8]) -> Sides
     requires cell { IsCell dim child }
     requires below_root { 1 ≤ child.level }
-    ensures { (t : Spacetree) (f : States) → t.dim ≡ dim → KnowsSides t f child parent.now.sides corners.now → result ≡ sides_of t f child }
+    ensures { (t : Spacetree) (f : States) → t.dim ≡ dim
+        → KnowsSides t f child parent.now.sides corners.now → result ≡ sides_of t f child }
 {
     let mut sides = Sides {
         low: [Side::Edge; 3],

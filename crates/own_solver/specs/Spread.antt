@@ -34,5 +34,6 @@ abbrev pub HasOne : Option State → Type 0
 HasOne answer = IfSome answer (λ s. count_of s ≡ 1)
 
 -- so the state that is answered has one
-pub has_one : (answer : Option State) (new : State) → HasOne answer → answer ≡ Some new → count_of new ≡ 1
+pub has_one : (answer : Option State) (new : State) → HasOne answer → answer ≡ Some new
+    → count_of new ≡ 1
 has_one answer new h e = subst HasOne e h

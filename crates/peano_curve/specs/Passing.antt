@@ -34,19 +34,25 @@ pub record AreBeside (c d : CellKey) : Type 0 where
 
 -- of the places whose coordinates are x or y, none is later than x
 pub record NoneLater (dir : Direction) (rank : ℕ → ℕ → ℕ → ℕ) (x0 x1 x2 y0 y1 y2 : ℕ) : Type 0 where
-  pub none : (t0 t1 t2 : ℕ) → Among x0 y0 t0 → Among x1 y1 t1 → Among x2 y2 t2 → UpTo dir (rank t0 t1 t2) (rank x0 x1 x2)
+  pub none : (t0 t1 t2 : ℕ) → Among x0 y0 t0 → Among x1 y1 t1 → Among x2 y2 t2
+      → UpTo dir (rank t0 t1 t2) (rank x0 x1 x2)
 
 -- of the places whose coordinates are x or y, the place n is the next after x
-pub record NextIs (dir : Direction) (rank : ℕ → ℕ → ℕ → ℕ) (x0 x1 x2 y0 y1 y2 n0 n1 n2 : ℕ) : Type 0 where
+pub record NextIs (dir : Direction) (rank : ℕ → ℕ → ℕ → ℕ)
+    (x0 x1 x2 y0 y1 y2 n0 n1 n2 : ℕ) : Type 0 where
   pub later : Later dir (rank x0 x1 x2) (rank n0 n1 n2)
-  pub nearest : (t0 t1 t2 : ℕ) → Among x0 y0 t0 → Among x1 y1 t1 → Among x2 y2 t2 → UpTo dir (rank t0 t1 t2) (rank x0 x1 x2) ⊎ UpTo dir (rank n0 n1 n2) (rank t0 t1 t2)
+  pub nearest : (t0 t1 t2 : ℕ) → Among x0 y0 t0 → Among x1 y1 t1 → Among x2 y2 t2
+      → UpTo dir (rank t0 t1 t2) (rank x0 x1 x2) ⊎ UpTo dir (rank n0 n1 n2) (rank t0 t1 t2)
 
 -- the axis on which the next place after x lies, where there is one: there it has the coordinate of y, and that of x on the others
 abbrev pub TurnsOn : Direction → (ℕ → ℕ → ℕ → ℕ) → ℕ → ℕ → ℕ → ℕ → ℕ → ℕ → Option ℕ → Type 0
 TurnsOn dir rank x0 x1 x2 y0 y1 y2 None = NoneLater dir rank x0 x1 x2 y0 y1 y2
-TurnsOn dir rank x0 x1 x2 y0 y1 y2 (Some zero) = (x0 ≢ y0) × NextIs dir rank x0 x1 x2 y0 y1 y2 y0 x1 x2
-TurnsOn dir rank x0 x1 x2 y0 y1 y2 (Some (suc zero)) = (x1 ≢ y1) × NextIs dir rank x0 x1 x2 y0 y1 y2 x0 y1 x2
-TurnsOn dir rank x0 x1 x2 y0 y1 y2 (Some (suc (suc zero))) = (x2 ≢ y2) × NextIs dir rank x0 x1 x2 y0 y1 y2 x0 x1 y2
+TurnsOn dir rank x0 x1 x2 y0 y1 y2 (Some zero) = (x0 ≢ y0)
+    × NextIs dir rank x0 x1 x2 y0 y1 y2 y0 x1 x2
+TurnsOn dir rank x0 x1 x2 y0 y1 y2 (Some (suc zero)) = (x1 ≢ y1)
+    × NextIs dir rank x0 x1 x2 y0 y1 y2 x0 y1 x2
+TurnsOn dir rank x0 x1 x2 y0 y1 y2 (Some (suc (suc zero))) = (x2 ≢ y2)
+    × NextIs dir rank x0 x1 x2 y0 y1 y2 x0 x1 y2
 TurnsOn dir rank x0 x1 x2 y0 y1 y2 (Some (suc (suc (suc i)))) = ⊥
 
 -- inside one parent, y is later than x on an axis where the other coordinates have this sum
@@ -55,15 +61,19 @@ Crosses dir s x y = (x / 3 ≡ y / 3) × Later dir (turned s (x % 3)) (turned s 
 
 -- of all cells round a vertex, none is later than this one
 abbrev pub NoneLaterRound : Direction → Dim → VertexKey → CellKey → Type 0
-NoneLaterRound dir dim v c = (q : CellKey) → IsCell dim q → Touches q v → UpTo dir (rank_of dim q) (rank_of dim c)
+NoneLaterRound dir dim v c = (q : CellKey) → IsCell dim q → Touches q v
+    → UpTo dir (rank_of dim q) (rank_of dim c)
 
 -- of all cells round a vertex, n is the next after this one
 pub record NextRound (dir : Direction) (dim : Dim) (v : VertexKey) (c n : CellKey) : Type 0 where
   pub cell : IsCell dim n
   pub touches : Touches n v
   pub later : CellLater dir dim c n
-  pub nearest : (q : CellKey) → IsCell dim q → Touches q v → UpTo dir (rank_of dim q) (rank_of dim c) ⊎ UpTo dir (rank_of dim n) (rank_of dim q)
+  pub nearest : (q : CellKey) → IsCell dim q → Touches q v
+      → UpTo dir (rank_of dim q) (rank_of dim c) ⊎ UpTo dir (rank_of dim n) (rank_of dim q)
 
 -- each cell round a vertex has the coordinates of c or of d
 abbrev pub SpanRound : Dim → VertexKey → CellKey → CellKey → Type 0
-SpanRound dim v c d = (q : CellKey) → IsCell dim q → Touches q v → Among (at c 0) (at d 0) (at q 0) × Among (at c 1) (at d 1) (at q 1) × Among (at c 2) (at d 2) (at q 2)
+SpanRound dim v c d = (q : CellKey) → IsCell dim q → Touches q v
+    → Among (at c 0) (at d 0) (at q 0) × Among (at c 1) (at d 1) (at q 1)
+    × Among (at c 2) (at d 2) (at q 2)

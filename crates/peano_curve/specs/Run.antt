@@ -40,11 +40,13 @@ pub record InRun (dim : Dim) (v : VertexKey) (r : Range) (depth : ℕ) (c : Cell
   pub held : HoldsCell dim depth r c
 
 -- a cell of the run comes right after another: later, and none of the run between
-pub record Follows (dir : Direction) (dim : Dim) (v : VertexKey) (r : Range) (depth : ℕ) (c next : CellKey) : Type 0 where
+pub record Follows (dir : Direction) (dim : Dim) (v : VertexKey) (r : Range) (depth : ℕ)
+    (c next : CellKey) : Type 0 where
   pub before : InRun dim v r depth c
   pub after : InRun dim v r depth next
   pub later : CellLater dir dim c next
-  pub none_between : (q : CellKey) → InRun dim v r depth q → CellLater dir dim c q → CellLater dir dim q next → ⊥
+  pub none_between : (q : CellKey) → InRun dim v r depth q → CellLater dir dim c q
+      → CellLater dir dim q next → ⊥
 
 -- no cell of the run comes later
 abbrev pub IsLast : Direction → Dim → VertexKey → Range → ℕ → CellKey → Type 0

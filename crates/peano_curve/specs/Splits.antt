@@ -15,4 +15,6 @@ box_of c = record { x0 = at c 0; x1 = at c 1; x2 = at c 2 }
 
 -- the rank of a cell is the place of its box among the boxes of its shape, however many levels lie below
 abbrev pub RanksArePlaces : Type 0
-RanksArePlaces = (dim : Dim) (c : CellKey) (below : ℕ) → IsCell dim c → rank_of dim c ≡ rank forward (axis_in (axes dim)) (axes dim * c.level) (axes dim * below) (box_of c)
+RanksArePlaces = (dim : Dim) (c : CellKey) (below : ℕ) → IsCell dim c
+    → rank_of dim c
+    ≡ rank forward (axis_in (axes dim)) (axes dim * c.level) (axes dim * below) (box_of c)

@@ -28,7 +28,8 @@ pub fn mirror(dim: Dim, p: CellKey, face: Face, a: CellKey, b: CellKey) -> Order
     ensures value { result ≡ curve_cmp dim a b }
     ensures first_image { IsSome (neighbour_of a face) }
     ensures second_image { IsSome (neighbour_of b face) }
-    ensures mirror { (n m : CellKey) → neighbour_of a face ≡ Some n → neighbour_of b face ≡ Some m → curve_cmp dim n m ≡ ordering_reverse result }
+    ensures mirror { (n m : CellKey) → neighbour_of a face ≡ Some n → neighbour_of b face ≡ Some m
+        → curve_cmp dim n m ≡ ordering_reverse result }
 {
     compare(dim, &a, &b)
 }

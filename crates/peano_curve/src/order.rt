@@ -97,9 +97,11 @@ pub fn first_child(dim: Dim, cell: CellKey, dir: Direction) -> CellKey
 pub fn next_child(dim: Dim, child: CellKey, dir: Direction) -> Option<CellKey>
     requires cell { IsCell dim child }
     requires below_root { 1 ≤ child.level }
-    ensures last { MatchOption result (place_along dir dim child + 1 ≡ children dim) (λ next. place_along dir dim next ≡ place_along dir dim child + 1) }
+    ensures last { MatchOption result (place_along dir dim child + 1 ≡ children dim)
+        (λ next. place_along dir dim next ≡ place_along dir dim child + 1) }
     ensures parent { IfSome result (λ next. parent_of next ≡ parent_of child) }
-    ensures value { IfSome result (λ next. next ≡ child_along dir dim (parent_of child) (place_along dir dim child + 1)) }
+    ensures value { IfSome result
+        (λ next. next ≡ child_along dir dim (parent_of child) (place_along dir dim child + 1)) }
     ensures cell { IfSome result (λ next. IsCell dim next) }
 {
     let from = count(dim, dir, place(dim, child));

@@ -32,7 +32,8 @@ fn passing_axis(dim: Dim, cell: CellKey, other: CellKey, dir: Direction) -> Opti
     requires cell { IsCell dim cell }
     requires other { IsCell dim other }
     requires beside { AreBeside cell other }
-    ensures turn { TurnsOn dir (rank_from dim cell.level) (at cell 0) (at cell 1) (at cell 2) (at other 0) (at other 1) (at other 2) result }
+    ensures turn { TurnsOn dir (rank_from dim cell.level) (at cell 0) (at cell 1) (at cell 2)
+        (at other 0) (at other 1) (at other 2) result }
     ensures axis { IfSome result (λ i. i < axes dim) }
 {
     if cell.level == 0 {
@@ -110,7 +111,8 @@ pub(crate) fn next_round(
 ) -> Option<(CellKey, u32)>
     requires cell { IsCell dim cell }
     requires touches { Touches cell vertex }
-    ensures next { MatchOption result (NoneLaterRound dir dim vertex cell) (λ p. NextRound dir dim vertex cell p.0) }
+    ensures next { MatchOption result (NoneLaterRound dir dim vertex cell)
+        (λ p. NextRound dir dim vertex cell p.0) }
     ensures axis { IfSome result (λ p. DifferOn dim p.1 cell p.0) }
 {
     let other = opposite(dim, vertex, cell);

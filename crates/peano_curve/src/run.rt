@@ -29,7 +29,8 @@ pub fn after(
     requires run { InRun dim vertex range.now depth cell }
     requires above { cell.level ≤ depth }
     requires depth { depth ≤ 12 }
-    ensures next { MatchOption result (IsLast dir dim vertex range.now depth cell) (λ p. Follows dir dim vertex range.now depth cell p.0) }
+    ensures next { MatchOption result (IsLast dir dim vertex range.now depth cell)
+        (λ p. Follows dir dim vertex range.now depth cell p.0) }
     ensures axis { IfSome result (λ p. DifferOn dim p.1 cell p.0) }
 {
     let (next, axis) = next_round(dim, vertex, cell, dir)?;
@@ -52,7 +53,8 @@ pub fn before(
     requires run { InRun dim vertex range.now depth cell }
     requires above { cell.level ≤ depth }
     requires depth { depth ≤ 12 }
-    ensures previous { MatchOption result (IsFirst dir dim vertex range.now depth cell) (λ p. Follows dir dim vertex range.now depth p.0 cell) }
+    ensures previous { MatchOption result (IsFirst dir dim vertex range.now depth cell)
+        (λ p. Follows dir dim vertex range.now depth p.0 cell) }
     ensures axis { IfSome result (λ p. DifferOn dim p.1 cell p.0) }
 {
     let back = match dir {

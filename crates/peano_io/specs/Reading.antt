@@ -16,7 +16,8 @@ ReadsToEnd None after bytes = ⊤
 ReadsToEnd (Some all) after bytes = (bytes ≡ all) × (after ≡ Some [])
 
 -- the source lost a prefix of at most `limit + 1` bytes, and exactly so many where the input was too long
-pub record LosesPrefix {T : Type 0} (limit : ℕ) (before after : Option (List ℕ)) (result : Result T ReadAllFault) : Type 0 where
+pub record LosesPrefix {T : Type 0} (limit : ℕ) (before after : Option (List ℕ))
+    (result : Result T ReadAllFault) : Type 0 where
   pub prefix : List ℕ
   pub lost : Consumes before after prefix
   pub most : length prefix ≤ limit + 1

@@ -51,12 +51,15 @@ impl Sink for CutSink {
     fn write(&mut self, piece: &[u8]) -> Result<usize, WriteFailed>
         requires { 0 < length piece.now }
         ensures count { TakesSome result piece.now }
-        ensures bytes { WriteAppends (Some (cut_bytes self.old)) (Some (cut_bytes self.new)) result piece.now }
+        ensures bytes { WriteAppends (Some (cut_bytes self.old))
+            (Some (cut_bytes self.new)) result piece.now }
         ensures cause { HasCause (write_faults self.old) (write_faults self.new) result }
 
         // It fails exactly where all was taken, and else takes as much as it can.
         ensures fails { IsErr result ↔ (cut_room self.old ≤ length (cut_bytes self.old)) }
-        ensures takes { IfOk result (λ count. count ≡ min (length piece.now) (cut_room self.old - length (cut_bytes self.old))) }
+        ensures takes { IfOk result
+            (λ count. count
+            ≡ min (length piece.now) (cut_room self.old - length (cut_bytes self.old))) }
         ensures failed { OnErr result (write_faults self.new ≡ counted (write_faults self.old)) }
         ensures room { cut_room self.new ≡ cut_room self.old }
     {

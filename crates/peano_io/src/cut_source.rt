@@ -58,7 +58,8 @@ impl Source for CutSource {
     fn read(&mut self, buf: &mut [u8]) -> Result<usize, ReadFailed>
         requires { 0 < length buf.old }
         ensures bound { ReadsAtMost result buf.new }
-        ensures bytes { ReadConsumes (Some (cut_left self.old)) (Some (cut_left self.new)) result buf.new }
+        ensures bytes { ReadConsumes (Some (cut_left self.old))
+            (Some (cut_left self.new)) result buf.new }
         ensures end { false ≡ tells_end result }
         ensures cause { HasCause (read_faults self.old) (read_faults self.new) result }
 

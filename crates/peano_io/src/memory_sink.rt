@@ -69,7 +69,8 @@ impl Sink for MemSink {
     fn write(&mut self, piece: &[u8]) -> Result<usize, WriteFailed>
         requires { 0 < length piece.now }
         ensures count { TakesSome result piece.now }
-        ensures bytes { WriteAppends (Some (sink_bytes self.old)) (Some (sink_bytes self.new)) result piece.now }
+        ensures bytes { WriteAppends (Some (sink_bytes self.old))
+            (Some (sink_bytes self.new)) result piece.now }
         ensures cause { HasCause (sink_calls self.old).faults (sink_calls self.new).faults result }
 
         // It fails exactly at the listed calls and where no room is left, and else takes as much as it may.

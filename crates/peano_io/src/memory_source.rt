@@ -108,13 +108,16 @@ impl Source for MemSource {
         requires room { 0 < length buf.old }
         requires before_end { source_ended self.old ≡ false }
         ensures bound { ReadsAtMost result buf.new }
-        ensures bytes { ReadConsumes (Some (source_left self.old)) (Some (source_left self.new)) result buf.new }
+        ensures bytes { ReadConsumes (Some (source_left self.old))
+            (Some (source_left self.new)) result buf.new }
         ensures end { source_ended self.new ≡ tells_end result }
-        ensures cause { HasCause (source_calls self.old).faults (source_calls self.new).faults result }
+        ensures cause { HasCause (source_calls self.old).faults
+            (source_calls self.new).faults result }
 
         // It fails exactly at the listed calls, and else fills the buffer as far as there are bytes.
         ensures listed { IsErr result ↔ IsListed (source_calls self.old) }
-        ensures filled { IfOk result (λ count. count ≡ min (length buf.old) (length (source_left self.old))) }
+        ensures filled { IfOk result
+            (λ count. count ≡ min (length buf.old) (length (source_left self.old))) }
         ensures calls { source_calls self.new ≡ after_call (source_calls self.old) (is_ok result) }
     {
         if self.calls.begin() {
@@ -171,7 +174,8 @@ impl Source for SureSource {
         requires room { 0 < length buf.old }
         requires before_end { sure_ended self.old ≡ false }
         ensures bound { ReadsAtMost result buf.new }
-        ensures bytes { ReadConsumes (Some (sure_left self.old)) (Some (sure_left self.new)) result buf.new }
+        ensures bytes { ReadConsumes (Some (sure_left self.old))
+            (Some (sure_left self.new)) result buf.new }
         ensures end { sure_ended self.new ≡ tells_end result }
         ensures cause { HasCause 0 0 result }
         ensures filled { result ≡ Ok (min (length buf.old) (length (sure_left self.old))) }

@@ -29,7 +29,8 @@ const PIECE: usize = 8192;
 pub fn read_all<S: Source>(alloc: Global, src: &mut S, limit: u64) -> Result<Vec<u8>, ReadAllFault>
     requires limit { limit ≤ 2 ^ 30 }
     requires before_end { S.ended src.old ≡ false }
-    ensures whole { IfOk result (λ bytes. ReadsToEnd (S.left src.old) (S.left src.new) bytes.items) }
+    ensures whole { IfOk result
+        (λ bytes. ReadsToEnd (S.left src.old) (S.left src.new) bytes.items) }
     ensures within { IfOk result (λ bytes. vec_len bytes ≤ limit) }
     ensures end { S.ended src.new ≡ is_ok result }
 

@@ -15,7 +15,8 @@ pub struct WriteFault {
 /// were taken.
 pub fn write_whole<K: Sink>(sink: &mut K, bytes: &[u8]) -> Result<(), WriteFault>
     ensures whole { OnOk result (Appends (K.taken sink.old) (K.taken sink.new) bytes.now) }
-    ensures part { IfErr result (λ fault. Appends (K.taken sink.old) (K.taken sink.new) (take fault.written bytes.now)) }
+    ensures part { IfErr result
+        (λ fault. Appends (K.taken sink.old) (K.taken sink.new) (take fault.written bytes.now)) }
     ensures written { IfErr result (λ fault. fault.written < length bytes.now) }
     ensures empty { length bytes.now ≡ 0 → sink.new ≡ sink.old }
     ensures cause { HasCause (K.faults sink.old) (K.faults sink.new) result }

@@ -43,7 +43,12 @@ pub record IsDigits (dim : Dim) (k : List ℕ) : Type 0 where
 
 -- the child at three digits
 abbrev pub child_of : CellKey → List ℕ → CellKey
-child_of c k = record { level = c.level + 1; x = triple (3 * at c 0 + slice_index k 0) (3 * at c 1 + slice_index k 1) (3 * at c 2 + slice_index k 2) }
+child_of c k =
+    record {
+      level = c.level + 1;
+      x = triple (3 * at c 0 + slice_index k 0) (3 * at c 1 + slice_index k 1)
+          (3 * at c 2 + slice_index k 2);
+    }
 
 -- the digits of the centre child
 abbrev pub centre_digits : Dim → List ℕ
@@ -60,7 +65,11 @@ root = record { level = 0; x = triple 0 0 0 }
 
 -- the cell across a face, where it is inside the domain: the coordinate on the face's axis moved by one
 abbrev pub neighbour_of : CellKey → Face → Option CellKey
-neighbour_of c f = if f.high then (if nat_lt (at c f.axis + 1) (3 ^ c.level) then Some (record c { x = slice_set c.x f.axis (at c f.axis + 1) }) else None) else (if nat_lt 0 (at c f.axis) then Some (record c { x = slice_set c.x f.axis (at c f.axis - 1) }) else None)
+neighbour_of c f = if f.high
+    then (if nat_lt (at c f.axis + 1) (3 ^ c.level)
+    then Some (record c { x = slice_set c.x f.axis (at c f.axis + 1) }) else None)
+    else (if nat_lt 0 (at c f.axis)
+    then Some (record c { x = slice_set c.x f.axis (at c f.axis - 1) }) else None)
 
 -- key order: by level, then by coordinates from axis 0
 abbrev pub key_cmp : CellKey → CellKey → Ordering
@@ -68,4 +77,5 @@ key_cmp a b = ordering_then (nat_cmp a.level b.level) (slice_cmp nat_cmp a.x b.x
 
 -- a cell as a pair of a number and a list
 abbrev pub coded_cell : Coded CellKey
-coded_cell = code_by (ℕ × List ℕ) (coded× coded_ℕ (coded_list coded_ℕ)) (λ c. (c.level, c.x)) (λ p. record { level = p.0; x = p.1 }) (λ _. refl)
+coded_cell = code_by (ℕ × List ℕ) (coded× coded_ℕ (coded_list coded_ℕ)) (λ c. (c.level, c.x))
+    (λ p. record { level = p.0; x = p.1 }) (λ _. refl)

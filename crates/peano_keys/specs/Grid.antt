@@ -20,7 +20,8 @@ pub record Spacetree : Type 0 where
 
 -- a spacetree as a pair
 abbrev pub coded_spacetree : Coded Spacetree
-coded_spacetree = code_by (Dim × set.FinSet key_cmp) (coded× coded_dim (set.code coded_cell)) (λ t. (t.dim, t.refined)) (λ p. record { dim = p.0; refined = p.1 }) (λ _. refl)
+coded_spacetree = code_by (Dim × set.FinSet key_cmp) (coded× coded_dim (set.code coded_cell))
+    (λ t. (t.dim, t.refined)) (λ p. record { dim = p.0; refined = p.1 }) (λ _. refl)
 
 -- whether a cell is refined
 abbrev pub is_refined : Spacetree → CellKey → Bool
@@ -38,7 +39,8 @@ is_leaf t c = has_cell t c && not (is_refined t c)
 pub record IsGrid (depth : ℕ) (t : Spacetree) : Type 0 where
   pub cells : (c : CellKey) → is_refined t c ≡ true → IsCell t.dim c
   pub levels : (c : CellKey) → is_refined t c ≡ true → c.level < depth
-  pub parents : (c : CellKey) → is_refined t c ≡ true → 0 < c.level → is_refined t (parent_of c) ≡ true
+  pub parents : (c : CellKey) → is_refined t c ≡ true → 0 < c.level
+      → is_refined t (parent_of c) ≡ true
 
 -- a vertex is stored where each cell of the domain round it is a cell of the grid
 abbrev pub IsStored : Spacetree → VertexKey → Type 0

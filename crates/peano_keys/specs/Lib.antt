@@ -3,6 +3,7 @@ pub mod Cell
 pub mod Vertex
 pub mod State
 pub mod Grid
+pub mod Sums
 pub mod Field
 pub mod Next
 pub mod Laws

@@ -21,4 +21,6 @@ pub record Merges (t : Spacetree) (marks : CellKey → Mark) (c : CellKey) : Typ
 -- the new grid is the next one after the old by these marks
 pub record IsNextGrid (old : Spacetree) (marks : CellKey → Mark) (new : Spacetree) : Type 0 where
   pub dim : new.dim ≡ old.dim
-  pub refined : (c : CellKey) → (is_refined new c ≡ true) ↔ (Splits old marks c ⊎ ((is_refined old c ≡ true) × ¬ Merges old marks c))
+  pub refined : (c : CellKey)
+      → (is_refined new c ≡ true)
+      ↔ (Splits old marks c ⊎ ((is_refined old c ≡ true) × ¬ Merges old marks c))

@@ -26,7 +26,11 @@ bit_of n i = n / 2 ^ i % 2
 
 -- corner number `n` of a cell
 abbrev pub corner_of : CellKey → ℕ → VertexKey
-corner_of c n = record { level = c.level; v = triple (at c 0 + bit_of n 0) (at c 1 + bit_of n 1) (at c 2 + bit_of n 2) }
+corner_of c n =
+    record {
+      level = c.level;
+      v = triple (at c 0 + bit_of n 0) (at c 1 + bit_of n 1) (at c 2 + bit_of n 2);
+    }
 
 -- a corner's number by its bits
 abbrev pub number_of : Dim → ℕ → ℕ → ℕ → ℕ
@@ -48,7 +52,8 @@ anchor_bit false high x = inner_bit x
 
 -- the anchor of a cell across a face: the corner on that face that stands for it and for the neighbour
 abbrev pub anchor_of : Dim → CellKey → Face → ℕ
-anchor_of dim c f = number_of dim (anchor_bit (f.axis == 0) f.high (at c 0)) (anchor_bit (f.axis == 1) f.high (at c 1)) (anchor_bit (f.axis == 2) f.high (at c 2))
+anchor_of dim c f = number_of dim (anchor_bit (f.axis == 0) f.high (at c 0))
+    (anchor_bit (f.axis == 1) f.high (at c 1)) (anchor_bit (f.axis == 2) f.high (at c 2))
 
 -- the slot of a cell at its corner number `n`
 abbrev pub slot_from : Dim → ℕ → ℕ
@@ -66,7 +71,8 @@ pub record Touches (c : CellKey) (v : VertexKey) : Type 0 where
 
 -- a coordinate moved by `bit` and back by one, where that is inside
 abbrev pub moved : ℕ → ℕ → ℕ → Option ℕ
-moved x bit extent = if nat_le 1 (x + bit) && nat_le (x + bit) extent then Some (x + bit - 1) else None
+moved x bit extent = if nat_le 1 (x + bit) && nat_le (x + bit) extent then Some (x + bit - 1)
+    else None
 
 -- the cell of a level at three coordinates, where each is there
 abbrev pub cell_at : ℕ → Option ℕ → Option ℕ → Option ℕ → Option CellKey
@@ -80,4 +86,6 @@ third_moved Three x bit extent = moved x bit extent
 
 -- adjacent position number `n` of a vertex, none outside the domain
 abbrev pub adjacent_of : Dim → VertexKey → ℕ → Option CellKey
-adjacent_of dim v n = cell_at v.level (moved (plane v 0) (bit_of n 0) (3 ^ v.level)) (moved (plane v 1) (bit_of n 1) (3 ^ v.level)) (third_moved dim (plane v 2) (bit_of n 2) (3 ^ v.level))
+adjacent_of dim v n = cell_at v.level (moved (plane v 0) (bit_of n 0) (3 ^ v.level))
+    (moved (plane v 1) (bit_of n 1) (3 ^ v.level))
+    (third_moved dim (plane v 2) (bit_of n 2) (3 ^ v.level))

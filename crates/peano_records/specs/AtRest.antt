@@ -27,11 +27,13 @@ intent_between false false = Stay
 
 -- each slot of a position outside the domain says so, whatever is stored elsewhere
 abbrev pub SaysOutside : Dim → VertexRecord → Type 0
-SaysOutside dim v = (n : ℕ) → n < corners dim → adjacent_of dim v.key n ≡ None → (slot_at v n).status ≡ Outside
+SaysOutside dim v = (n : ℕ) → n < corners dim → adjacent_of dim v.key n ≡ None
+    → (slot_at v n).status ≡ Outside
 
 -- each slot of a position inside the domain says of its cell what is asked
 abbrev pub SaysOfCells : Dim → VertexRecord → (CellKey → Slot → Type 0) → Type 0
-SaysOfCells dim v P = (n : ℕ) (c : CellKey) → n < corners dim → adjacent_of dim v.key n ≡ Some c → P c (slot_at v n)
+SaysOfCells dim v P = (n : ℕ) (c : CellKey) → n < corners dim → adjacent_of dim v.key n ≡ Some c
+    → P c (slot_at v n)
 
 -- a slot has its cell's status and value
 pub record HoldsCell (t : Spacetree) (f : States) (c : CellKey) (s : Slot) : Type 0 where
@@ -55,5 +57,6 @@ pub record IsBeforeAdapting (old new : Spacetree) (v : VertexRecord) : Type 0 wh
   pub eight : length v.slots ≡ 8
   pub outside : SaysOutside old.dim v
   pub inside : SaysOfCells old.dim v (HoldsIntent old new)
-  pub idle : (n : ℕ) → n < corners old.dim → adjacent_of old.dim v.key n ≡ None → (slot_at v n).intent ≡ Stay
+  pub idle : (n : ℕ) → n < corners old.dim → adjacent_of old.dim v.key n ≡ None
+      → (slot_at v n).intent ≡ Stay
   pub unused : (n : ℕ) → corners old.dim ≤ n → n < 8 → (slot_at v n).intent ≡ Stay

@@ -40,7 +40,11 @@ counted false c = One
 
 -- one number of a state, or a slot, of which nothing is known
 abbrev pub no_rests : Rests
-no_rests = record { value = record { second = pos 0; third = pos 0; fourth = pos 0 }; next = record { second = pos 0; third = pos 0; fourth = pos 0 } }
+no_rests =
+    record {
+      value = record { second = pos 0; third = pos 0; fourth = pos 0 };
+      next = record { second = pos 0; third = pos 0; fourth = pos 0 };
+    }
 
 -- the first numbers of a slot of which nothing is known
 abbrev pub no_firsts : Firsts
@@ -48,15 +52,26 @@ no_firsts = record { value = pos 0; next = pos 0 }
 
 -- the small parts of such a slot
 abbrev pub no_parts : SmallParts
-no_parts = record { status = Unset; mark = Keep; intent = Stay; value_count = One; next_count = One }
+no_parts =
+    record { status = Unset; mark = Keep; intent = Stay; value_count = One; next_count = One }
 
 -- four slots, and a vertex, of which nothing is known
 abbrev pub no_slots : FourSlots
-no_slots = record { firsts = no_firsts ∷ no_firsts ∷ no_firsts ∷ no_firsts ∷ []; parts = no_parts ∷ no_parts ∷ no_parts ∷ no_parts ∷ [] }
+no_slots =
+    record {
+      firsts = no_firsts ∷ no_firsts ∷ no_firsts ∷ no_firsts ∷ [];
+      parts = no_parts ∷ no_parts ∷ no_parts ∷ no_parts ∷ [];
+    }
 
 -- the near part of a vertex of which nothing is known
 abbrev pub nowhere : Near
-nowhere = record { key = record { level = 0; v = 0 ∷ 0 ∷ 0 ∷ [] }; slots = no_slots; has_far = false; has_more = false }
+nowhere =
+    record {
+      key = record { level = 0; v = 0 ∷ 0 ∷ 0 ∷ [] };
+      slots = no_slots;
+      has_far = false;
+      has_more = false;
+    }
 
 -- a slot by its parts and numbers; with `wide` its states may have more than one value
 abbrev pub slot_by : Bool → SmallParts → Firsts → Rests → Slot
@@ -70,11 +85,13 @@ slot_by wide s first rest = record {
 
 -- slot `k` of four
 abbrev pub one_of : Bool → FourSlots → List Rests → ℕ → Slot
-one_of wide four rests k = slot_by wide (slice_index_or four.parts k no_parts) (slice_index_or four.firsts k no_firsts) (slice_index_or rests k no_rests)
+one_of wide four rests k = slot_by wide (slice_index_or four.parts k no_parts)
+    (slice_index_or four.firsts k no_firsts) (slice_index_or rests k no_rests)
 
 -- all four slots
 abbrev pub four_of : Bool → FourSlots → List Rests → List Slot
-four_of wide four rests = one_of wide four rests 0 ∷ one_of wide four rests 1 ∷ one_of wide four rests 2 ∷ one_of wide four rests 3 ∷ []
+four_of wide four rests = one_of wide four rests 0 ∷ one_of wide four rests 1
+    ∷ one_of wide four rests 2 ∷ one_of wide four rests 3 ∷ []
 
 -- slots 4 to 7: blank, unless the record has them
 abbrev pub far_of : Bool → Bool → FourSlots → List Rests → List Slot
@@ -83,7 +100,9 @@ far_of false wide far rests = blank Unset ∷ blank Unset ∷ blank Unset ∷ bl
 
 -- the record that three columns hold
 abbrev pub record_of : Near → FourSlots → More → VertexRecord
-record_of near far more = record {
-  key = near.key;
-  slots = four_of near.has_more near.slots more.near ++ far_of near.has_far near.has_more far more.far;
-}
+record_of near far more =
+    record {
+      key = near.key;
+      slots = four_of near.has_more near.slots more.near
+          ++ far_of near.has_far near.has_more far more.far;
+    }

@@ -19,7 +19,8 @@ pub record VertexRecord : Type 0 where
 
 -- a slot of which the status alone is known
 abbrev pub blank : Status → Slot
-blank s = record { status = s; value = Single (pos 0); next = Single (pos 0); mark = Keep; intent = Stay }
+blank s =
+    record { status = s; value = Single (pos 0); next = Single (pos 0); mark = Keep; intent = Stay }
 
 -- slot number `n`
 abbrev pub slot_at : VertexRecord → ℕ → Slot
@@ -36,15 +37,19 @@ first_status (Some c) = Unset
 
 -- slot number `n` of a new record: a position's, or one that is not in use
 abbrev pub fresh_slot : Dim → VertexKey → ℕ → Slot
-fresh_slot dim key n = blank (if nat_lt n (corners dim) then first_status (adjacent_of dim key n) else Unset)
+fresh_slot dim key n =
+    blank (if nat_lt n (corners dim) then first_status (adjacent_of dim key n) else Unset)
 
 -- the new record of a vertex
 abbrev pub fresh : Dim → VertexKey → VertexRecord
-fresh dim key = record { key = key; slots = map (fresh_slot dim key) (0 ∷ 1 ∷ 2 ∷ 3 ∷ 4 ∷ 5 ∷ 6 ∷ 7 ∷ []) }
+fresh dim key =
+    record { key = key; slots = map (fresh_slot dim key) (0 ∷ 1 ∷ 2 ∷ 3 ∷ 4 ∷ 5 ∷ 6 ∷ 7 ∷ []) }
 
 -- a record of which nothing is known
 abbrev pub untold : VertexRecord
-untold = record {
-  key = record { level = 0; v = 0 ∷ 0 ∷ 0 ∷ [] };
-  slots = blank Unset ∷ blank Unset ∷ blank Unset ∷ blank Unset ∷ blank Unset ∷ blank Unset ∷ blank Unset ∷ blank Unset ∷ [];
-}
+untold =
+    record {
+      key = record { level = 0; v = 0 ∷ 0 ∷ 0 ∷ [] };
+      slots = blank Unset ∷ blank Unset ∷ blank Unset ∷ blank Unset ∷ blank Unset ∷ blank Unset
+          ∷ blank Unset ∷ blank Unset ∷ [];
+    }

@@ -220,7 +220,8 @@ fn value_of_four(wide: bool, four: &FourSlots, rests: &[Rests; 4], k: usize) -> 
 // Whether slot `k` of four tells that its cell is refined in the old grid, or with `after` in the new one.
 fn tells_of_four(four: &FourSlots, k: usize, after: bool) -> bool
     requires { k < 4 }
-    ensures { (wide : Bool) (rests : List Rests) → result ≡ slot_tells after (one_of wide four.now rests k) }
+    ensures { (wide : Bool) (rests : List Rests)
+        → result ≡ slot_tells after (one_of wide four.now rests k) }
 {
     let parts = four.parts[k];
     match parts.intent {
@@ -234,7 +235,9 @@ fn tells_of_four(four: &FourSlots, k: usize, after: bool) -> bool
 fn set_in_four(wide: bool, four: &mut FourSlots, rests: &mut [Rests; 4], k: usize, slot: &Pieces)
     requires place { k < 4 }
     requires narrow { wide ≡ false → IsNarrow slot.now.parts }
-    ensures { four_of wide four.new rests.new ≡ slice_set (four_of wide four.old rests.old) k (slot_by true slot.now.parts slot.now.firsts slot.now.rests) }
+    ensures { four_of wide four.new rests.new
+        ≡ slice_set (four_of wide four.old rests.old) k
+        (slot_by true slot.now.parts slot.now.firsts slot.now.rests) }
 {
     four.parts[k] = slot.parts;
     four.firsts[k] = slot.firsts;
@@ -266,7 +269,8 @@ impl FourSlots {
 
     // Says that one value of each state counts.
     fn narrow(&mut self)
-        ensures { (wide : Bool) (rests : List Rests) → four_of wide self.new rests ≡ four_of false self.old rests }
+        ensures { (wide : Bool) (rests : List Rests)
+            → four_of wide self.new rests ≡ four_of false self.old rests }
     {
         self.parts = [
             narrowed(self.parts[0]),
@@ -305,7 +309,8 @@ impl Near {
 
     // Gives the record the rest of its states.
     fn widen(&mut self, far: &mut FourSlots)
-        ensures same { (more : More) → record_of self.new far.new more ≡ record_of self.old far.old more }
+        ensures same { (more : More)
+            → record_of self.new far.new more ≡ record_of self.old far.old more }
         ensures wide { self.new.has_more ≡ true }
     {
         if !self.has_more {
@@ -317,7 +322,8 @@ impl Near {
 
     // Gives the record slots 4 to 7.
     fn reach_far(&mut self, far: &mut FourSlots)
-        ensures same { (more : More) → record_of self.new far.new more ≡ record_of self.old far.old more }
+        ensures same { (more : More)
+            → record_of self.new far.new more ≡ record_of self.old far.old more }
         ensures far { self.new ≡ record self.old { has_far = true } }
     {
         if !self.has_far {
@@ -358,7 +364,8 @@ impl Near {
     /// new one.
     pub fn tells(&self, far: &FourSlots, n: u32, after: bool) -> bool
         requires { n < 8 }
-        ensures { (more : More) → result ≡ slot_tells after (slot_at (record_of self.now far.now more) n) }
+        ensures { (more : More)
+            → result ≡ slot_tells after (slot_at (record_of self.now far.now more) n) }
     {
         if n < 4 {
             tells_of_four(&self.slots, n as usize, after)
@@ -371,7 +378,8 @@ impl Near {
 
     // Gives the record what it needs to hold the states of a slot.
     fn make_way(&mut self, far: &mut FourSlots, slot: &Pieces)
-        ensures same { (more : More) → record_of self.new far.new more ≡ record_of self.old far.old more }
+        ensures same { (more : More)
+            → record_of self.new far.new more ≡ record_of self.old far.old more }
         ensures narrow { self.new.has_more ≡ false → IsNarrow slot.now.parts }
     {
         if !slot.is_narrow() {
@@ -383,7 +391,10 @@ impl Near {
     fn set_near(&mut self, more: &mut More, n: u32, slot: &Pieces)
         requires place { n < 4 }
         requires narrow { self.old.has_more ≡ false → IsNarrow slot.now.parts }
-        ensures { (far : FourSlots) → record_of self.new far more.new ≡ with_slot (record_of self.old far more.old) n (slot_by true slot.now.parts slot.now.firsts slot.now.rests) }
+        ensures { (far : FourSlots)
+            → record_of self.new far more.new
+            ≡ with_slot (record_of self.old far more.old) n
+            (slot_by true slot.now.parts slot.now.firsts slot.now.rests) }
     {
         let wide = self.has_more;
         set_in_four(wide, &mut self.slots, &mut more.near, n as usize, slot);
@@ -394,7 +405,9 @@ impl Near {
         requires place { k < 4 }
         requires far { self.now.has_far ≡ true }
         requires narrow { self.now.has_more ≡ false → IsNarrow slot.now.parts }
-        ensures { record_of self.now far.new more.new ≡ with_slot (record_of self.now far.old more.old) (4 + k) (slot_by true slot.now.parts slot.now.firsts slot.now.rests) }
+        ensures { record_of self.now far.new more.new
+            ≡ with_slot (record_of self.now far.old more.old) (4 + k)
+            (slot_by true slot.now.parts slot.now.firsts slot.now.rests) }
     {
         set_in_four(self.has_more, far, &mut more.far, k as usize, slot);
     }
@@ -402,7 +415,8 @@ impl Near {
     /// Changes slot number `n`, which is below 8, and nothing else.
     pub fn set(&mut self, far: &mut FourSlots, more: &mut More, n: u32, slot: Slot)
         requires { n < 8 }
-        ensures value { record_of self.new far.new more.new ≡ with_slot (record_of self.old far.old more.old) n slot }
+        ensures value { record_of self.new far.new more.new
+            ≡ with_slot (record_of self.old far.old more.old) n slot }
         ensures eight { length (record_of self.old far.old more.old).slots ≡ 8 }
     {
         let pieces = Pieces::of(slot);

@@ -4,6 +4,7 @@
 
 mod columns;
 pub mod laws;
+mod partials;
 mod slot;
 mod stored;
 #[cfg(test)]
@@ -12,6 +13,7 @@ mod traffic;
 mod view;
 
 pub use columns::{FourSlots, More, Near};
+pub use partials::{Partial, Partials};
 pub use slot::{Intent, Slot, Status};
 pub use stored::{Parcel, Stored};
 pub use traffic::Traffic;

@@ -63,14 +63,14 @@ module _ (trees : ℕ) (plan : Plan) (keys : CutPoints) where
       IsServedStep (updated_by plan.solver) (marked_by plan.solver) g f h a → all ≡ ns ++ added_notes (cuts_of keys) adapts (suc n) g h → HasNotesBefore trees plan keys (suc n) h a all
   notes_stepped n g f ns adapts h a all same to served added =
       let count = count_to n g f ns to in
-      (g, f, ns, to, served, added ∙ (λ i. ns ++ step_notes sizes (record { trees = count i; adapts = same i; printed = λ s. false }) (suc n) g h))
+      (g, f, ns, to, served, added ∙ (λ i. ns ++ step_notes sizes (record { trees = count i; adapts = same i; recuts = λ s. false; printed = λ s. false }) (suc n) g h))
 
 -- notes are of the evaluation
 pub to_evaluation : (trees : ℕ) (plan : Plan) (keys : CutPoints) (step : ℕ) (g : Spacetree) (f : States) (ns : List Note) → (h : HasNotesTo trees plan keys step g f ns) → Evaluates (updated_by plan.solver) (marked_by plan.solver) h.first_grid h.first_field step g f
-to_evaluation trees plan keys step g f ns h = notes_are_of_evaluation (sizes_of (cuts_of keys)) (schedule_of trees plan) (updated_by plan.solver) (marked_by plan.solver) h.first_grid h.first_field step g f ns h.noted
+to_evaluation trees plan keys step g f ns h = notes_are_of_evaluation (λ s. sizes_of (cuts_of keys)) (schedule_of trees plan) (updated_by plan.solver) (marked_by plan.solver) h.first_grid h.first_field step g f ns h.noted
 
 -- a world that was started is the first one
 pub first_from : {E : Type 0} (trees : ℕ) (plan : Plan) (g : Spacetree) (f : States) (res : Result (Seen AnySolver) E) → Opens plan.shape g → OpensField g plan.fills (parts_in plan.solver) f → IfOk res (λ w. AreFirstKeys plan.shape.depth g trees w.keys)
-    → IfOk res (λ w. IsAt (parts_in plan.solver) w g f 0) → IfOk res (λ w. w.solver ≡ plan.solver) → IfOk res (λ w. w.notes ≡ by_trees trees (note_raised (sizes_of (cuts_of w.keys)) g)) → IfOk res (IsFirst trees plan g)
+    → IfOk res (λ w. IsAt (parts_in plan.solver) w g f 0) → IfOk res (λ w. w.solver ≡ plan.solver) → IfOk res (λ w. w.notes ≡ by_trees trees (note_raised (sizes_of (cuts_of w.keys)) 0 g)) → IfOk res (IsFirst trees plan g)
 first_from trees plan g f (Ok w) opens fills keys at solver noted = record { field = f; begun = record { grid = opens; field = fills; cut = keys }; at = at; solver = solver; noted = noted }
 first_from trees plan g f (Err e) opens fills keys at solver noted = tt

@@ -8,7 +8,8 @@ use Rattle.peano_run.specs.declared.asked.Request.{Request}
 
 -- settings ask for a file by so many trees and workers, with what is shown of it, or for the demonstration of a number by so many
 abbrev pub AsksFor : Words → Asked → Type 0
-AsksFor w (File r) = (w.demo ≡ None) × (r.trees ≡ w.trees) × (r.workers ≡ w.workers) × (r.show ≡ w.show)
+AsksFor w (File r) = (w.demo ≡ None) × (r.trees ≡ w.trees) × (r.workers ≡ w.workers)
+    × (r.show ≡ w.show)
 AsksFor w (Demo n trees workers) = (w.demo ≡ Some n) × (trees ≡ w.trees) × (workers ≡ w.workers)
 
 -- so do words that mean them

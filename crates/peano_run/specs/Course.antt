@@ -28,12 +28,14 @@ abbrev pub IsUnderWay : Plan → ℕ → Course → Type 0
 IsUnderWay plan step c = (m : Moment) × StandsAtMoment plan step c m
 
 -- so before the step is shown, with the notes up to then
-pub record StandsUnshown (r : Request) (plan : Plan) (step : ℕ) (c : Course) (m : Moment) : Type 0 where
+pub record StandsUnshown (r : Request) (plan : Plan) (step : ℕ) (c : Course)
+    (m : Moment) : Type 0 where
   pub stands : StandsAtMoment plan step c m
   pub noted : HasNotesBefore r.trees plan c.world.keys step m.grid m.field c.world.notes
 
 -- and after it, with its notes
-pub record StandsShown (r : Request) (plan : Plan) (step : ℕ) (c : Course) (m : Moment) : Type 0 where
+pub record StandsShown (r : Request) (plan : Plan) (step : ℕ) (c : Course)
+    (m : Moment) : Type 0 where
   pub stands : StandsAtMoment plan step c m
   pub noted : HasNotesTo r.trees plan c.world.keys step m.grid m.field c.world.notes
 
@@ -50,24 +52,40 @@ pub record IsStopped (r : Request) (plan : Plan) (refused : Refused) : Type 0 wh
 
 -- how many lines a report has with those of a field, where fields are shown; or they are too many
 abbrev pub CountsLines : Request → ℕ → States → Option ℕ → Type 0
-CountsLines r lines f (Some all) = (all ≡ lines + (if shows_fields r.show then length (rows_of f) else 0)) × (all ≤ most_lines)
-CountsLines r lines f None = most_lines < lines + (if shows_fields r.show then length (rows_of f) else 0)
+CountsLines r lines f (Some all) =
+    (all ≡ lines + (if shows_fields r.show then length (rows_of f) else 0))
+    × (all ≤ most_lines)
+CountsLines r lines f None = most_lines
+    < lines + (if shows_fields r.show then length (rows_of f) else 0)
 
 -- a moment with what a step adds to its report
 abbrev pub with_text : Request → Plan → ℕ → Moment → List ℕ → Moment
-with_text r plan step m added = record { keys = m.keys; grid = m.grid; field = m.field; text = m.text ++ added; lines = m.lines + added_lines r plan step m.field }
+with_text r plan step m added =
+    record {
+      keys = m.keys;
+      grid = m.grid;
+      field = m.field;
+      text = m.text ++ added;
+      lines = m.lines + added_lines r plan step m.field;
+    }
 
 -- a course after what a step shows of it
-pub record ShowsStep (r : Request) (plan : Plan) (step : ℕ) (before : Moment) (after : Course) : Type 0 where
+pub record ShowsStep (r : Request) (plan : Plan) (step : ℕ) (before : Moment)
+    (after : Course) : Type 0 where
   pub added : List ℕ
   pub told : IsAdded r plan (cuts_of before.keys) step before.grid before.field added
   pub shown : StandsShown r plan step after (with_text r plan step before added)
   pub room : after.lines ≤ most_lines
 
 -- why a step is not shown: with it there are too many lines, and the world is left unshown; or memory ran out
-pub data ShowFails (r : Request) (plan : Plan) (step : ℕ) (m : Moment) (refused : Refused) : Type 0 where
-  too_many : (w : Seen AnySolver) → refused ≡ record { answer = Limit Lines most_lines; world = Some w } → most_lines < m.lines + added_lines r plan step m.field
-      → IsAt (parts_in plan.solver) w m.grid m.field step → HasNotesBefore r.trees plan w.keys step m.grid m.field w.notes → ShowFails r plan step m refused
+pub data ShowFails (r : Request) (plan : Plan) (step : ℕ) (m : Moment)
+    (refused : Refused) : Type 0 where
+  too_many : (w : Seen AnySolver)
+      → refused ≡ record { answer = Limit Lines most_lines; world = Some w }
+      → most_lines < m.lines + added_lines r plan step m.field
+      → IsAt (parts_in plan.solver) w m.grid m.field step
+      → HasNotesBefore r.trees plan w.keys step m.grid m.field w.notes
+      → ShowFails r plan step m refused
   no_memory : refused ≡ record { answer = NoMemory; world = None } → ShowFails r plan step m refused
 
 -- one of both, by the answer

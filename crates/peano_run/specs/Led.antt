@@ -26,7 +26,7 @@ pub record IsFirst (trees : ℕ) (plan : Plan) (g : Spacetree) (w : Seen AnySolv
   pub begun : IsBegun trees plan w.keys g field
   pub at : IsAt (parts_in plan.solver) w g field 0
   pub solver : w.solver ≡ plan.solver
-  pub noted : w.notes ≡ by_trees trees (note_raised (sizes_of (cuts_of w.keys)) g)
+  pub noted : w.notes ≡ by_trees trees (note_raised (sizes_of (cuts_of w.keys)) 0 g)
 
 -- a plan is that of a demonstration
 abbrev pub IsDemo : Plan → Type 0

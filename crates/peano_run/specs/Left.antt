@@ -22,26 +22,38 @@ use Rattle.peano_run.specs.Report.{Moment, GoesOn, OfPlan, added_lines, most_lin
 
 -- the sweeps of a plan's run: of so many trees, with adaptations where there is a criterion, and showings after the printed steps
 abbrev pub schedule_of : ℕ → Plan → Course
-schedule_of trees plan = record { trees = trees; adapts = adapting_in plan.solver; printed = printed plan }
+schedule_of trees plan =
+    record {
+      trees = trees;
+      adapts = adapting_in plan.solver;
+      recuts = λ s. false;
+      printed = printed plan;
+    }
 
 -- a run of a plan begins with its opening grid and field, and with the keys of so many trees of equal shares
-pub record IsBegun (trees : ℕ) (plan : Plan) (keys : CutPoints) (g : Spacetree) (f : States) : Type 0 where
+pub record IsBegun (trees : ℕ) (plan : Plan) (keys : CutPoints) (g : Spacetree)
+    (f : States) : Type 0 where
   pub grid : Opens plan.shape g
   pub field : OpensField g plan.fills (parts_in plan.solver) f
   pub cut : AreFirstKeys plan.shape.depth g trees keys
 
 -- the notes of the whole schedule up to the end of a step, with the grid and the field to which the evaluation leads in it
-pub record HasNotesTo (trees : ℕ) (plan : Plan) (keys : CutPoints) (step : ℕ) (g : Spacetree) (f : States) (ns : List Note) : Type 0 where
+pub record HasNotesTo (trees : ℕ) (plan : Plan) (keys : CutPoints) (step : ℕ) (g : Spacetree)
+    (f : States) (ns : List Note) : Type 0 where
   pub first_grid : Spacetree
   pub first_field : States
   pub begun : IsBegun trees plan keys first_grid first_field
-  pub noted : HasNotes (sizes_of (cuts_of keys)) (schedule_of trees plan) (updated_by plan.solver) (marked_by plan.solver) first_grid first_field step g f ns
+  pub noted : HasNotes (λ s. sizes_of (cuts_of keys)) (schedule_of trees plan) (updated_by plan.solver)
+      (marked_by plan.solver) first_grid first_field step g f ns
 
 -- the notes up to the showing of a step
 abbrev pub HasNotesBefore : ℕ → Plan → CutPoints → ℕ → Spacetree → States → List Note → Type 0
-HasNotesBefore trees plan keys zero g f ns = IsBegun trees plan keys g f × (ns ≡ by_trees trees (note_raised (sizes_of (cuts_of keys)) g))
-HasNotesBefore trees plan keys (suc n) g f ns = (u : Spacetree) × (b : States) × (ms : List Note) × HasNotesTo trees plan keys n u b ms
-    × IsServedStep (updated_by plan.solver) (marked_by plan.solver) u b g f × (ns ≡ ms ++ step_notes (sizes_of (cuts_of keys)) (schedule_of trees plan) (suc n) u g)
+HasNotesBefore trees plan keys zero g f ns = IsBegun trees plan keys g f
+    × (ns ≡ by_trees trees (note_raised (sizes_of (cuts_of keys)) 0 g))
+HasNotesBefore trees plan keys (suc n) g f ns = (u : Spacetree) × (b : States) × (ms : List Note)
+    × HasNotesTo trees plan keys n u b ms
+    × IsServedStep (updated_by plan.solver) (marked_by plan.solver) u b g f
+    × (ns ≡ ms ++ step_notes (sizes_of (cuts_of keys)) (schedule_of trees plan) (suc n) u g)
 
 -- a world at the grid and the field to which the last step of a plan leads, with the notes of all sweeps
 pub record EndsAtLast (trees : ℕ) (plan : Plan) (w : Seen AnySolver) : Type 0 where
@@ -65,7 +77,8 @@ pub record EndsInStep (trees : ℕ) (plan : Plan) (step : ℕ) (w : Seen AnySolv
 -- with the lines of a step's field a report has too many
 abbrev pub PassesLines : Request → Plan → ℕ → States → Type 0
 PassesLines r plan zero f = most_lines < added_lines r plan 0 f
-PassesLines r plan (suc n) f = (before : Moment) × GoesOn r plan n before × (most_lines < before.lines + added_lines r plan (suc n) f)
+PassesLines r plan (suc n) f = (before : Moment) × GoesOn r plan n before
+    × (most_lines < before.lines + added_lines r plan (suc n) f)
 
 -- a world at the grid and the field of such a step, with the notes up to the showing of it
 pub record EndsUnshown (r : Request) (plan : Plan) (w : Seen AnySolver) : Type 0 where
@@ -107,7 +120,8 @@ LeavesOf r plan answer = IsLeft (LeavesWorld r plan answer) (leaves_world answer
 -- of a file's plan, where the source tells what it had
 abbrev pub LeavesBy : Request → Answer → Option (List ℕ) → Option (Seen AnySolver) → Type 0
 LeavesBy r answer None = IsLeft (λ w. ⊤) (leaves_world answer)
-LeavesBy r answer (Some bytes) = IsLeft (λ w. OfPlan bytes (λ plan. LeavesWorld r plan answer w)) (leaves_world answer)
+LeavesBy r answer (Some bytes) =
+    IsLeft (λ w. OfPlan bytes (λ plan. LeavesWorld r plan answer w)) (leaves_world answer)
 
 -- the notes of the world that is left
 abbrev pub notes_of : Option (Seen AnySolver) → List Note

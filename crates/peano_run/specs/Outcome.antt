@@ -17,20 +17,25 @@ HasRefusal r bytes = (a : Answer) × IsRefused r bytes a × (a ≢ NoMemory)
 
 -- one of both, for each list of bytes and each number of trees
 abbrev pub EachFileHasAnOutcome : Type 0
-EachFileHasAnOutcome = (r : Request) (bytes : List ℕ) → IsTreeCount r.trees → HasReport r bytes ⊎ HasRefusal r bytes
+EachFileHasAnOutcome = (r : Request) (bytes : List ℕ) → IsTreeCount r.trees
+    → HasReport r bytes ⊎ HasRefusal r bytes
 
 -- a file has at most one report, for so many trees and what is shown
 abbrev pub OneReport : Type 0
-OneReport = (r : Request) (bytes first second : List ℕ) → IsReport r bytes first → IsReport r bytes second → first ≡ second
+OneReport = (r : Request) (bytes first second : List ℕ) → IsReport r bytes first
+    → IsReport r bytes second → first ≡ second
 
 -- a file that has a report is refused for want of memory alone
 abbrev pub NoneIsBoth : Type 0
-NoneIsBoth = (r : Request) (bytes text : List ℕ) (a : Answer) → IsReport r bytes text → IsRefused r bytes a → a ≡ NoMemory
+NoneIsBoth = (r : Request) (bytes text : List ℕ) (a : Answer) → IsReport r bytes text
+    → IsRefused r bytes a → a ≡ NoMemory
 
 -- a file is refused by one answer, or for want of memory
 abbrev pub OneRefusal : Type 0
-OneRefusal = (r : Request) (bytes : List ℕ) (a b : Answer) → IsRefused r bytes a → IsRefused r bytes b → (a ≡ NoMemory) ⊎ (b ≡ NoMemory) ⊎ (a ≡ b)
+OneRefusal = (r : Request) (bytes : List ℕ) (a b : Answer) → IsRefused r bytes a
+    → IsRefused r bytes b → (a ≡ NoMemory) ⊎ (b ≡ NoMemory) ⊎ (a ≡ b)
 
 -- a demonstration has at most one summary
 abbrev pub OneSummary : Type 0
-OneSummary = (n : ℕ) (first second : List ℕ) → IsDemoSummary n first → IsDemoSummary n second → first ≡ second
+OneSummary = (n : ℕ) (first second : List ℕ) → IsDemoSummary n first → IsDemoSummary n second
+    → first ≡ second

@@ -57,15 +57,18 @@ shows_traffic All = true
 
 -- the field block of a printed step, where fields are shown
 abbrev pub fields_text : Request → Plan → ℕ → States → List ℕ
-fields_text r plan step f = if shows_fields r.show then field_block plan.shape.dim step (rows_of f) else []
+fields_text r plan step f = if shows_fields r.show then field_block plan.shape.dim step (rows_of f)
+    else []
 
 -- a text is the traffic block of a printed step, where traffic is shown
 abbrev pub IsTrafficText : Bool → Cuts → ℕ → Spacetree → List ℕ → Type 0
-IsTrafficText true k step g text = (list : List Traffic) × TellTraffic k g list × (text ≡ traffic_block step list)
+IsTrafficText true k step g text = (list : List Traffic) × TellTraffic k g list
+    × (text ≡ traffic_block step list)
 IsTrafficText false k step g text = text ≡ []
 
 -- a text is what a printed step shows: the field block, then the traffic block
-pub record IsPrintedText (r : Request) (plan : Plan) (k : Cuts) (step : ℕ) (g : Spacetree) (f : States) (text : List ℕ) : Type 0 where
+pub record IsPrintedText (r : Request) (plan : Plan) (k : Cuts) (step : ℕ) (g : Spacetree)
+    (f : States) (text : List ℕ) : Type 0 where
   pub traffic : List ℕ
   pub told : IsTrafficText (shows_traffic r.show) k step g traffic
   pub text_is : text ≡ fields_text r plan step f ++ traffic
@@ -81,7 +84,8 @@ IsAdded r plan k step g f text = IsAddedIf (printed plan step) r plan k step g f
 
 -- and how many leaf lines
 abbrev pub added_lines : Request → Plan → ℕ → States → ℕ
-added_lines r plan step f = if printed plan step && shows_fields r.show then length (rows_of f) else 0
+added_lines r plan step f = if printed plan step && shows_fields r.show then length (rows_of f)
+    else 0
 
 -- the moment before the first step: the opening grid and the opening field, cut into trees of equal shares
 pub record Starts (r : Request) (plan : Plan) (m : Moment) : Type 0 where
@@ -93,10 +97,12 @@ pub record Starts (r : Request) (plan : Plan) (m : Moment) : Type 0 where
   pub lines : m.lines ≡ added_lines r plan 0 m.field
 
 -- one moment follows another by a step that is not refused
-pub record IsNextMoment (r : Request) (plan : Plan) (step : ℕ) (before after : Moment) : Type 0 where
+pub record IsNextMoment (r : Request) (plan : Plan) (step : ℕ)
+    (before after : Moment) : Type 0 where
   pub room : before.lines ≤ most_lines
   pub keys : after.keys ≡ before.keys
-  pub taken : IsServedStep (updated_by plan.solver) (marked_by plan.solver) before.grid before.field after.grid after.field
+  pub taken : IsServedStep (updated_by plan.solver)
+      (marked_by plan.solver) before.grid before.field after.grid after.field
   pub added : List ℕ
   pub shown : IsAdded r plan (cuts_of before.keys) step after.grid after.field added
   pub text : after.text ≡ before.text ++ added
@@ -105,7 +111,8 @@ pub record IsNextMoment (r : Request) (plan : Plan) (step : ℕ) (before after :
 -- a run of a plan comes to a moment in so many steps; only the lines of the last of them are not tested yet
 abbrev pub Reaches : Request → Plan → ℕ → Moment → Type 0
 Reaches r plan zero m = Starts r plan m
-Reaches r plan (suc n) m = (before : Moment) × Reaches r plan n before × IsNextMoment r plan (suc n) before m
+Reaches r plan (suc n) m = (before : Moment) × Reaches r plan n before
+    × IsNextMoment r plan (suc n) before m
 
 -- so that a next step is taken: with no more lines than there may be
 pub record GoesOn (r : Request) (plan : Plan) (n : ℕ) (m : Moment) : Type 0 where
@@ -113,7 +120,8 @@ pub record GoesOn (r : Request) (plan : Plan) (n : ℕ) (m : Moment) : Type 0 wh
   pub room : m.lines ≤ most_lines
 
 -- a run of a plan opens: with the opening grid and the opening field, cut into trees of equal shares
-pub record OpensRun (r : Request) (plan : Plan) (keys : CutPoints) (g : Spacetree) (f : States) : Type 0 where
+pub record OpensRun (r : Request) (plan : Plan) (keys : CutPoints) (g : Spacetree)
+    (f : States) : Type 0 where
   pub grid : Opens plan.shape g
   pub room : cells_of g ≤ MOST_CELLS
   pub field : OpensField g plan.fills (parts_in plan.solver) f
@@ -125,7 +133,8 @@ pub record Block : Type 0 where
   pub lines : ℕ
 
 -- the block of a step shows the grid and the field to which the evaluation leads in it
-pub record BlockOf (r : Request) (plan : Plan) (keys : CutPoints) (g : Spacetree) (f : States) (step : ℕ) (b : Block) : Type 0 where
+pub record BlockOf (r : Request) (plan : Plan) (keys : CutPoints) (g : Spacetree) (f : States)
+    (step : ℕ) (b : Block) : Type 0 where
   pub grid : Spacetree
   pub field : States
   pub led : Evaluates (updated_by plan.solver) (marked_by plan.solver) g f step grid field
@@ -149,15 +158,20 @@ pub record IsReportOf (r : Request) (plan : Plan) (text : List ℕ) : Type 0 whe
   pub opens : OpensRun r plan keys grid field
   pub blocks : List Block
   pub count : length blocks ≡ plan.steps + 1
-  pub each : (s : ℕ) (d : Block) → s ≤ plan.steps → BlockOf r plan keys grid field s (slice_index_or blocks s d)
+  pub each : (s : ℕ) (d : Block) → s ≤ plan.steps
+      → BlockOf r plan keys grid field s (slice_index_or blocks s d)
   pub text_is : text ≡ texts_in blocks
   pub room : lines_in blocks ≤ most_lines
 
 -- a plan has too many lines: with those of the opening field, or with those of the field to which a step leads
 pub data HasManyLines (r : Request) (plan : Plan) : Type 0 where
-  at_start : (g : Spacetree) (f : States) → Opens plan.shape g → cells_of g ≤ MOST_CELLS → OpensField g plan.fills (parts_in plan.solver) f → most_lines < added_lines r plan 0 f → HasManyLines r plan
-  in_step : (n : ℕ) (before : Moment) (g : Spacetree) (f : States) → n < plan.steps → GoesOn r plan n before → IsServedStep (updated_by plan.solver) (marked_by plan.solver) before.grid before.field g f →
-      most_lines < before.lines + added_lines r plan (suc n) f → HasManyLines r plan
+  at_start : (g : Spacetree) (f : States) → Opens plan.shape g → cells_of g ≤ MOST_CELLS
+      → OpensField g plan.fills (parts_in plan.solver) f → most_lines < added_lines r plan 0 f
+      → HasManyLines r plan
+  in_step : (n : ℕ) (before : Moment) (g : Spacetree) (f : States) → n < plan.steps
+      → GoesOn r plan n before
+      → IsServedStep (updated_by plan.solver) (marked_by plan.solver) before.grid before.field g f
+      → most_lines < before.lines + added_lines r plan (suc n) f → HasManyLines r plan
 
 -- a plan overflows in a step, at the least leaf that fails
 pub record PlanOverflows (r : Request) (plan : Plan) (step : ℕ) (leaf : CellKey) : Type 0 where
@@ -200,7 +214,8 @@ Refuses r plan _ = ⊥
 -- why a file has no report: it is too long, or malformed by a code at a place, or its plan has none
 abbrev pub IsRefused : Request → List ℕ → Answer → Type 0
 IsRefused r bytes TooLong = longest_input < length bytes
-IsRefused r bytes (Malformed code place) = (length bytes ≤ longest_input) × (plan_of bytes ≡ Err (record { code = code; place = place }))
+IsRefused r bytes (Malformed code place) = (length bytes ≤ longest_input)
+    × (plan_of bytes ≡ Err (record { code = code; place = place }))
 IsRefused r bytes (Limit which number) = OfPlan bytes (λ plan. Refuses r plan (Limit which number))
 IsRefused r bytes (Crowded step cells) = OfPlan bytes (λ plan. Refuses r plan (Crowded step cells))
 IsRefused r bytes (Overflow step leaf) = OfPlan bytes (λ plan. Refuses r plan (Overflow step leaf))

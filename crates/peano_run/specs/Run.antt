@@ -21,7 +21,8 @@ pub record LosesOf (P : ℕ → Type 0) (before after : Option (List ℕ)) : Typ
 -- the source was read to its end, which it told, and had no more bytes than an input may have
 abbrev pub IsReadWhole : Option (List ℕ) → Option (List ℕ) → Bool → Type 0
 IsReadWhole None after ended = ended ≡ true
-IsReadWhole (Some bytes) after ended = (ended ≡ true) × (after ≡ Some []) × (length bytes ≤ longest_input)
+IsReadWhole (Some bytes) after ended = (ended ≡ true) × (after ≡ Some [])
+    × (length bytes ≤ longest_input)
 
 -- What the source lost: nothing where the words are refused; at a read fault no more than an input may have; one byte more where the input is too long, and at most
 -- one more where memory ran out; and else all, up to the end that it told.
@@ -35,7 +36,8 @@ ReadsBy _ before after ended = IsReadWhole before after ended
 -- what the sink took: the whole text that is due, or its first bytes where a write failed, fewer than all
 abbrev pub WritesText : (List ℕ → Type 0) → Answer → Option (List ℕ) → Option (List ℕ) → Type 0
 WritesText IsDue Done before after = (text : List ℕ) × IsDue text × Appends before after text
-WritesText IsDue (WriteFault written) before after = (text : List ℕ) × IsDue text × Appends before after (take written text) × (written < length text)
+WritesText IsDue (WriteFault written) before after = (text : List ℕ) × IsDue text
+    × Appends before after (take written text) × (written < length text)
 WritesText IsDue _ before after = ⊤
 
 -- the report of the input is
@@ -43,7 +45,8 @@ abbrev pub WritesOf : Request → Answer → List ℕ → Option (List ℕ) → 
 WritesOf r answer bytes = WritesText (IsReport r bytes) answer
 
 -- so where the source tells what it had
-abbrev pub WritesBy : Request → Answer → Option (List ℕ) → Option (List ℕ) → Option (List ℕ) → Type 0
+abbrev pub WritesBy : Request → Answer → Option (List ℕ) → Option (List ℕ) → Option (List ℕ)
+    → Type 0
 WritesBy r answer None before after = ⊤
 WritesBy r answer (Some bytes) before after = WritesOf r answer bytes before after
 
@@ -90,25 +93,35 @@ NamesIn dim _ input = ⊤
 
 -- what an ending of a run says of the file: its refusal has its cause, it names a leaf in the plan's dimension, and the world is the one that is left
 abbrev pub EndsBy : Request → Ending → List ℕ → Type 0
-EndsBy r ending bytes = IsRefused r bytes ending.answer × NamesIn ending.dim ending.answer (Some bytes) × LeavesBy r ending.answer (Some bytes) ending.world
+EndsBy r ending bytes = IsRefused r bytes ending.answer
+    × NamesIn ending.dim ending.answer (Some bytes)
+    × LeavesBy r ending.answer (Some bytes) ending.world
 
 -- a course to the end of a file's plan: it has the report, and its world is at the last grid and field
 abbrev pub EndsAtReport : Request → List ℕ → Course → Type 0
-EndsAtReport r bytes course = IsReport r bytes course.text.items × OfPlan bytes (λ plan. EndsAtLast r.trees plan course.world)
+EndsAtReport r bytes course = IsReport r bytes course.text.items
+    × OfPlan bytes (λ plan. EndsAtLast r.trees plan course.world)
 
 -- reading and reporting: the course to the report of the input, where the source tells it, or the answer that stands in its place
-abbrev pub Reports : Request → Option (List ℕ) → Option (List ℕ) → Bool → ℕ → ℕ → Result Course Ending → Type 0
+abbrev pub Reports : Request → Option (List ℕ) → Option (List ℕ) → Bool → ℕ → ℕ
+    → Result Course Ending → Type 0
 Reports r None after ended faults now (Ok course) = IsReadWhole None after ended × (now ≡ faults)
-Reports r (Some bytes) after ended faults now (Ok course) = EndsAtReport r bytes course × IsReadWhole (Some bytes) after ended × (now ≡ faults)
-Reports r before after ended faults now (Err ending) = RefusalBy r ending.answer before × ReadsBy ending.answer before after ended × ReadFaultRose ending.answer faults now × IsEarly ending.answer × NamesIn ending.dim ending.answer before × LeavesBy r ending.answer before ending.world
+Reports r (Some bytes) after ended faults now (Ok course) = EndsAtReport r bytes course
+    × IsReadWhole (Some bytes) after ended × (now ≡ faults)
+Reports r before after ended faults now (Err ending) = RefusalBy r ending.answer before
+    × ReadsBy ending.answer before after ended × ReadFaultRose ending.answer faults now
+    × IsEarly ending.answer × NamesIn ending.dim ending.answer before
+    × LeavesBy r ending.answer before ending.world
 
 -- a text was written whole, or in part where the count of faults rose
 pub data Tells (text : List ℕ) (before after : Option (List ℕ)) (faults now : ℕ) : Type 0 where
   whole : Appends before after text → now ≡ faults → Tells text before after faults now
-  part : (written : ℕ) → Appends before after (take written text) → Rose faults now → Tells text before after faults now
+  part : (written : ℕ) → Appends before after (take written text) → Rose faults now
+      → Tells text before after faults now
 
 -- an answer's text was told, where it names a leaf in the dimension of the file's plan
-pub record TellsAnswer (answer : Answer) (input before after : Option (List ℕ)) (faults now : ℕ) : Type 0 where
+pub record TellsAnswer (answer : Answer) (input before after : Option (List ℕ))
+    (faults now : ℕ) : Type 0 where
   pub dim : Dim
   pub named : NamesIn dim answer input
   pub told : Tells (text_of dim answer) before after faults now

@@ -17,14 +17,20 @@ counted_by Lines = codes "lines "
 -- the text of an answer on the error stream, each a line; none where the run is done. A leaf is printed as in the report
 abbrev pub text_of : Dim → Answer → List ℕ
 text_of dim Done = []
-text_of dim Usage = codes "usage: peano [--trees N] [--workers N] [--show fields|traffic|all] [--demo N]\n"
+text_of dim Usage =
+    codes "usage: peano [--trees N] [--workers N] [--show fields|traffic|all] [--demo N]\n"
 text_of dim ReadFault = codes "read fault\n"
 text_of dim TooLong = codes "input longer than 1048576 bytes\n"
-text_of dim (Malformed code place) = codes "malformed " ++ decimal code ++ codes " at " ++ place_text place ++ codes "\n"
-text_of dim (Limit which number) = codes "limit " ++ counted_by which ++ decimal number ++ codes "\n"
-text_of dim (Crowded step cells) = codes "crowded step " ++ decimal step ++ codes " cells " ++ decimal cells ++ codes "\n"
-text_of dim (Overflow step leaf) = codes "overflow step " ++ decimal step ++ codes " at " ++ key_text dim leaf ++ codes "\n"
-text_of dim (WriteFault written) = codes "write fault after " ++ decimal written ++ codes " bytes" ++ codes "\n"
+text_of dim (Malformed code place) = codes "malformed " ++ decimal code ++ codes " at "
+    ++ place_text place ++ codes "\n"
+text_of dim (Limit which number) = codes "limit " ++ counted_by which ++ decimal number
+    ++ codes "\n"
+text_of dim (Crowded step cells) = codes "crowded step " ++ decimal step ++ codes " cells "
+    ++ decimal cells ++ codes "\n"
+text_of dim (Overflow step leaf) = codes "overflow step " ++ decimal step ++ codes " at "
+    ++ key_text dim leaf ++ codes "\n"
+text_of dim (WriteFault written) = codes "write fault after " ++ decimal written ++ codes " bytes"
+    ++ codes "\n"
 text_of dim NoMemory = codes "out of memory\n"
 
 -- the status that the program ends with

@@ -60,7 +60,8 @@ fn shows_traffic(show: ShowWhat) -> bool
 // How many leaf lines the report has with those of a printed step, if they are not too many.
 fn counted(request: Request, course: &Course) -> Option<u64>
     requires { course.now.lines ≤ most_lines }
-    ensures { (parts n : ℕ) (g : Spacetree) (f : States) → IsAt parts course.now.world g f n → CountsLines request course.now.lines f result }
+    ensures { (parts n : ℕ) (g : Spacetree) (f : States) → IsAt parts course.now.world g f n
+        → CountsLines request course.now.lines f result }
 {
     if !shows_fields(request.show) {
         return Some(course.lines);
@@ -81,7 +82,11 @@ fn add_fields(
     shown: &Shown,
     text: &mut Vec<u8>,
 ) -> Result<(), AllocError>
-    ensures { OnOk result (text.new.items ≡ text.old.items ++ (if shows_fields request.show then field_block dim shown.now.step shown.now.rows.items else [])) }
+    ensures { OnOk result
+        (text.new.items
+        ≡ text.old.items
+        ++ (if shows_fields request.show
+        then field_block dim shown.now.step shown.now.rows.items else [])) }
 {
     if !shows_fields(request.show) {
         return Ok(());
@@ -97,7 +102,11 @@ fn add_traffic(
     shown: &Shown,
     text: &mut Vec<u8>,
 ) -> Result<(), AllocError>
-    ensures { OnOk result (text.new.items ≡ text.old.items ++ (if shows_traffic request.show then traffic_block shown.now.step shown.now.traffic.items else [])) }
+    ensures { OnOk result
+        (text.new.items
+        ≡ text.old.items
+        ++ (if shows_traffic request.show
+        then traffic_block shown.now.step shown.now.traffic.items else [])) }
 {
     if !shows_traffic(request.show) {
         return Ok(());
@@ -117,7 +126,8 @@ fn print<R: Threads + Sync>(
     requires way { IsUnderWay plan.now course.world.step course }
     requires lines { course.lines ≤ most_lines }
     requires printed { printed plan.now course.world.step ≡ true }
-    ensures { (m : Moment) → StandsUnshown request plan.now course.world.step course m → IsShowing request plan.now course.world.step m result }
+    ensures { (m : Moment) → StandsUnshown request plan.now course.world.step course m
+        → IsShowing request plan.now course.world.step m result }
 {
     let Some(lines) = counted(request, &course) else {
         let answer = Answer::Limit {
@@ -144,7 +154,8 @@ fn show<R: Threads + Sync>(
 ) -> Result<Course, Refused>
     requires way { IsUnderWay plan.now step course }
     requires lines { course.lines ≤ most_lines }
-    ensures { (m : Moment) → StandsUnshown request plan.now step course m → IsShowing request plan.now step m result }
+    ensures { (m : Moment) → StandsUnshown request plan.now step course m
+        → IsShowing request plan.now step m result }
 {
     if is_printed(plan, step) {
         print(rt, alloc, plan, request, course)

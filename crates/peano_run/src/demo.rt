@@ -102,7 +102,8 @@ pub(crate) fn demonstrated<R: Threads + Sync, K: Sink, G: Gate>(
 ) -> Ending
     requires { IsCrew trees workers }
     ensures demonstrates { Demonstrates number result.answer (K.taken out.old) (K.taken out.new) }
-    ensures world { IsLeft (EndsAtLast trees (demo number)) (leaves_world result.answer) result.world }
+    ensures world { IsLeft (EndsAtLast trees (demo number))
+        (leaves_world result.answer) result.world }
     ensures nothing { WritesNothing result.answer out.old out.new }
     ensures write_fault { WriteFaultRose result.answer (K.faults out.old) (K.faults out.new) }
 {

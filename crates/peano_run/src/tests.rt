@@ -19,7 +19,7 @@ const PULSE_3D: &str =
     "dim = 3\ndepth = 1\nbase = 1\nsolver = 'diffuse'\na = 1\nb = 90\nsteps = 1\n[[fill]]\nlevel = 1\nfrom = [1, 1, 1]\nto = [2, 2, 2]\nvalue = [900]\n";
 
 const MERGES: &str =
-    "dim = 2\ndepth = 1\nbase = 0\nsolver = 'diffuse'\na = 0\nb = 1\nsteps = 1\n[criterion]\nhi = 1000\nlo = 5\n[[refine]]\nlevel = 0\nfrom = [0, 0]\nto = [1, 1]\nuntil = 1\n[[fill]]\nlevel = 1\nfrom = [1, 1]\nto = [2, 2]\nvalue = [4]\n";
+    "dim = 2\ndepth = 1\nbase = 0\nsolver = 'diffuse'\na = 0\nb = 1\nsteps = 1\n[criterion]\nhi = 1000\nlo = 5\n[[refine]]\nlevel = 0\nfrom = [0, 0]\nto = [1, 1]\nuntil = 1\n[[fill]]\nlevel = 0\nfrom = [0, 0]\nto = [1, 1]\nvalue = [3]\n[[fill]]\nlevel = 1\nfrom = [1, 1]\nto = [2, 2]\nvalue = [7]\n";
 
 const OVERFLOWS: &str =
     "dim = 2\ndepth = 1\nbase = 1\nsolver = 'diffuse'\na = 1\nb = 1\nsteps = 1\n[[fill]]\nlevel = 0\nfrom = [0, 0]\nto = [1, 1]\nvalue = [9000000000000000000]\n[[fill]]\nlevel = 1\nfrom = [1, 1]\nto = [2, 2]\nvalue = [-9000000000000000000]\n";
@@ -120,7 +120,7 @@ fn reports_are_written_whole(rt: HostRuntime) -> Result<(), Fail> {
             PULSE_3D,
             "step 1 leaves 27\n1 0 0 0 0\n1 0 0 1 0\n1 0 0 2 0\n1 0 1 0 0\n1 0 1 1 90\n1 0 1 2 0\n1 0 2 0 0\n1 0 2 1 0\n1 0 2 2 0\n1 1 0 0 0\n1 1 0 1 90\n1 1 0 2 0\n1 1 1 0 90\n1 1 1 1 360\n1 1 1 2 90\n1 1 2 0 0\n1 1 2 1 90\n1 1 2 2 0\n1 2 0 0 0\n1 2 0 1 0\n1 2 0 2 0\n1 2 1 0 0\n1 2 1 1 90\n1 2 1 2 0\n1 2 2 0 0\n1 2 2 1 0\n1 2 2 2 0\n",
         ),
-        (MERGES, "step 1 leaves 1\n0 0 0 4\n"),
+        (MERGES, "step 1 leaves 1\n0 0 0 3\n"),
     ];
     for (file, want) in table {
         let left = run_with(&rt, &[], file, NOWHERE)?;
@@ -232,15 +232,15 @@ fn a_demonstration_reads_nothing_and_writes_its_summary(rt: HostRuntime) -> Resu
     let table: [(&[&str], &str); 3] = [
         (
             &["--demo", "1"],
-            "demo 1\nsteps 20\ncells 6958\nleaves 6185\nlow -698\nhigh 800\nlevel 0 leaves 0\nlevel 1 leaves 0\nlevel 2 leaves 42\nlevel 3 leaves 231\nlevel 4 leaves 476\nlevel 5 leaves 5436\n",
+            "demo 1\nsteps 20\ncells 7021\nleaves 6241\nlow -696\nhigh 798\nlevel 0 leaves 0\nlevel 1 leaves 0\nlevel 2 leaves 41\nlevel 3 leaves 240\nlevel 4 leaves 470\nlevel 5 leaves 5490\n",
         ),
         (
             &["--demo", "1", "--trees=7"],
-            "demo 1\nsteps 20\ncells 6958\nleaves 6185\nlow -698\nhigh 800\nlevel 0 leaves 0\nlevel 1 leaves 0\nlevel 2 leaves 42\nlevel 3 leaves 231\nlevel 4 leaves 476\nlevel 5 leaves 5436\n",
+            "demo 1\nsteps 20\ncells 7021\nleaves 6241\nlow -696\nhigh 798\nlevel 0 leaves 0\nlevel 1 leaves 0\nlevel 2 leaves 41\nlevel 3 leaves 240\nlevel 4 leaves 470\nlevel 5 leaves 5490\n",
         ),
         (
             &["--workers=0", "--demo=9999999999999999999", "--trees", "1"],
-            "demo 9999999999999999999\nsteps 20\ncells 7714\nleaves 6857\nlow -957\nhigh 941\nlevel 0 leaves 0\nlevel 1 leaves 0\nlevel 2 leaves 41\nlevel 3 leaves 236\nlevel 4 leaves 433\nlevel 5 leaves 6147\n",
+            "demo 9999999999999999999\nsteps 20\ncells 7777\nleaves 6913\nlow -955\nhigh 939\nlevel 0 leaves 0\nlevel 1 leaves 1\nlevel 2 leaves 27\nlevel 3 leaves 279\nlevel 4 leaves 450\nlevel 5 leaves 6156\n",
         ),
     ];
     for (words, want) in table {

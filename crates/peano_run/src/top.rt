@@ -35,7 +35,8 @@ fn report_of<R: Threads + Sync, S: Source, G: Gate>(
 ) -> Result<Course, Ending>
     requires fresh { S.ended input.old ≡ false }
     requires crew { IsCrew request.trees request.workers }
-    ensures { Reports request (S.left input.old) (S.left input.new) (S.ended input.new) (S.faults input.old) (S.faults input.new) result }
+    ensures { Reports request (S.left input.old) (S.left input.new) (S.ended input.new)
+        (S.faults input.old) (S.faults input.new) result }
 {
     match read_all(alloc, input, LONGEST_INPUT) {
         Ok(bytes) => report(rt, alloc, bytes.as_slice(), request, gate),
@@ -57,7 +58,8 @@ fn reported<R: Threads + Sync, S: Source, K: Sink, G: Gate>(
     requires fresh { S.ended input.old ≡ false }
     requires crew { IsCrew request.trees request.workers }
     ensures served { result.answer ≢ Answer.Usage }
-    ensures reports { ReportsFile request result.answer (S.left input.old) (S.left input.new) (S.ended input.new) (K.taken out.old) (K.taken out.new) }
+    ensures reports { ReportsFile request result.answer (S.left input.old) (S.left input.new)
+        (S.ended input.new) (K.taken out.old) (K.taken out.new) }
     ensures world { LeavesBy request result.answer (S.left input.old) result.world }
     ensures nothing { WritesNothing result.answer out.old out.new }
     ensures read_fault { ReadFaultRose result.answer (S.faults input.old) (S.faults input.new) }
@@ -92,7 +94,8 @@ fn served<R: Threads + Sync, S: Source, K: Sink, G: Gate>(
     requires crew { HasCrew asked }
     ensures served { result.answer ≢ Answer.Usage }
     ensures unread { ((r : Request) → asked ≢ File r) → input.new ≡ input.old }
-    ensures serves { Serves asked result.answer (S.left input.old) (S.left input.new) (S.ended input.new) (K.taken out.old) (K.taken out.new) }
+    ensures serves { Serves asked result.answer (S.left input.old) (S.left input.new)
+        (S.ended input.new) (K.taken out.old) (K.taken out.new) }
     ensures world { Leaves asked result.answer (S.left input.old) result.world }
     ensures nothing { WritesNothing result.answer out.old out.new }
     ensures read_fault { ReadFaultRose result.answer (S.faults input.old) (S.faults input.new) }
@@ -124,8 +127,10 @@ fn ended<R: Threads + Sync, S: Source, K: Sink, G: Gate>(
         → (result.answer ≡ Answer.Usage) ⊎ (result.answer ≡ Answer.NoMemory) }
     ensures unread { AskForNoFile (map string_bytes words.now) → input.new ≡ input.old }
     ensures serves { (asked : Asked) → Asks (map string_bytes words.now) asked
-        → Serves asked result.answer (S.left input.old) (S.left input.new) (S.ended input.new) (K.taken out.old) (K.taken out.new) }
-    ensures world { (asked : Asked) → Asks (map string_bytes words.now) asked → Leaves asked result.answer (S.left input.old) result.world }
+        → Serves asked result.answer (S.left input.old) (S.left input.new) (S.ended input.new)
+        (K.taken out.old) (K.taken out.new) }
+    ensures world { (asked : Asked) → Asks (map string_bytes words.now) asked
+        → Leaves asked result.answer (S.left input.old) result.world }
     ensures no_world { leaves_world result.answer ≡ false → result.world ≡ None }
     ensures nothing { WritesNothing result.answer out.old out.new }
     ensures read_fault { ReadFaultRose result.answer (S.faults input.old) (S.faults input.new) }
@@ -141,7 +146,8 @@ fn ended<R: Threads + Sync, S: Source, K: Sink, G: Gate>(
 
 // Writes a text as far as the sink takes it.
 fn tell<E: Sink>(err: &mut E, text: &[u8])
-    ensures { Tells text.now (E.taken err.old) (E.taken err.new) (E.faults err.old) (E.faults err.new) }
+    ensures { Tells text.now (E.taken err.old) (E.taken err.new) (E.faults err.old)
+        (E.faults err.new) }
 {
     match write_whole(err, text) {
         Ok(()) => {}
@@ -177,13 +183,15 @@ pub fn run<R: Threads + Sync, S: Source, K: Sink, E: Sink, G: Gate>(
     // exactly the report, at a write fault exactly its first bytes; each refusal has its cause in the bytes. A demonstration:
     // so with its summary, and no refusal comes but want of memory.
     ensures serves { (asked : Asked) → Asks (map string_bytes words.now) asked
-        → Serves asked result.answer (S.left input.old) (S.left input.new) (S.ended input.new) (K.taken out.old) (K.taken out.new) }
+        → Serves asked result.answer (S.left input.old) (S.left input.new) (S.ended input.new)
+        (K.taken out.old) (K.taken out.new) }
     ensures nothing { WritesNothing result.answer out.old out.new }
 
     // The world that ran is left at `Done` and at a write fault, at the last grid and field, with the notes of all sweeps;
     // where a step was refused, with the notes up to that step's secondary sweeps; and where the lines of a step are too
     // many, with those up to its showing. With any other answer there is none.
-    ensures world { (asked : Asked) → Asks (map string_bytes words.now) asked → Leaves asked result.answer (S.left input.old) result.world }
+    ensures world { (asked : Asked) → Asks (map string_bytes words.now) asked
+        → Leaves asked result.answer (S.left input.old) result.world }
     ensures no_world { leaves_world result.answer ≡ false → result.world ≡ None }
 
     // A fault comes only where a count of faults rose.
@@ -192,7 +200,8 @@ pub fn run<R: Threads + Sync, S: Source, K: Sink, E: Sink, G: Gate>(
 
     // The status and the text are those of the answer.
     ensures status { result.status ≡ status_of result.answer }
-    ensures text { TellsAnswer result.answer (S.left input.old) (E.taken err.old) (E.taken err.new) (E.faults err.old) (E.faults err.new) }
+    ensures text { TellsAnswer result.answer (S.left input.old) (E.taken err.old) (E.taken err.new)
+        (E.faults err.old) (E.faults err.new) }
 {
     let ending = ended(rt, alloc, words, input, out, gate);
     tell(err, refusal_text(ending.dim, &ending.answer).as_slice());

@@ -75,7 +75,8 @@ module _ {S : Type 0} {g : Ghosts S} where
       × DoesAt t c d (ms i) (ns i) × OthersRest i ms ns
 
   -- all that happens in a list, each to the moments that stand beside it, with the core that the events so far lead to
-  abbrev pub IsHistory : UpdateRule → Pool S g → Core → (ℕ → Moment S g) → List (Happening × (ℕ → Moment S g)) → Type 0
+  abbrev pub IsHistory : UpdateRule → Pool S g → Core → (ℕ → Moment S g)
+      → List (Happening × (ℕ → Moment S g)) → Type 0
   IsHistory updated p c ms [] = Unit {0}
   IsHistory updated p c ms (h ∷ hs) = AreMoments p h.1 × Happens p c h.0 ms h.1
       × IsHistory updated p (core_after updated c (event_told h.0)) h.1 hs

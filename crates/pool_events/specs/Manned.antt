@@ -20,7 +20,8 @@ use Rattle.pool_events.specs.Moments.{Moment}
 
 module _ {S : Type 0} {g : Ghosts S} where
   -- a helper's place at the tree has this view, and its pass is a user of the deque
-  pub record IsHelpers (helpers : List (Helper S g)) (tree : ℕ) (logs : List Log) (v : View S) : Type 0 where
+  pub record IsHelpers (helpers : List (Helper S g)) (tree : ℕ) (logs : List Log)
+      (v : View S) : Type 0 where
     pub number : ℕ
     pub helper : Helper S g
     pub is : slice_get helpers number ≡ Some helper
@@ -31,7 +32,8 @@ module _ {S : Type 0} {g : Ghosts S} where
     pub log : get_elem? logs port ≡ some (view post.pass)
 
   -- a tree of a pool whose seats and users of the deque are those of its hand and of these helpers
-  pub record IsManned (p : Pool S g) (t : Tree S g) (tree : ℕ) (h : TreeHand S g) (helpers : List (Helper S g)) (m : Moment S g) : Type 0 where
+  pub record IsManned (p : Pool S g) (t : Tree S g) (tree : ℕ) (h : TreeHand S g)
+      (helpers : List (Helper S g)) (m : Moment S g) : Type 0 where
     pub hand : IsHandOf p h
     pub tree_is : tree_of h ≡ tree
     pub helper : (j : ℕ) (x : Helper S g) → slice_get helpers j ≡ Some x → IsHelperOf p x

@@ -12,7 +12,8 @@ pub fn claim<S: Updates>(desk: &Desk<S>, seat: &mut DeskSeat<S>, k: u32) -> bool
     requires seat { IsSeatOf desk.now seat.old }
     requires task { k < size_of desk.now }
     ensures seat { IsSeatOf desk.now seat.new }
-    ensures did { Did (claim_as result (view_of seat.old).number k) (view_of seat.old) (view_of seat.new) }
+    ensures did { Did (claim_as result (view_of seat.old).number k) (view_of seat.old)
+        (view_of seat.new) }
 {
     desk.claim(seat, k)
 }
@@ -26,7 +27,8 @@ pub fn publish<S: Updates>(desk: &Desk<S>, seat: &mut DeskSeat<S>, k: u32, done:
         × (has (view_of seat.old).late k ≡ false) }
     requires done { ((task_of done).task ≡ k) × (solver_of done ≡ desk_solver desk.now) }
     ensures seat { IsSeatOf desk.now seat.new }
-    ensures did { DidPublish result (view_of seat.old).number k (view_of seat.old) (view_of seat.new) }
+    ensures did { DidPublish result (view_of seat.old).number k (view_of seat.old)
+        (view_of seat.new) }
 {
     desk.publish(seat, k, done)
 }

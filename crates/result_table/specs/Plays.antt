@@ -35,7 +35,8 @@ module _ {S : Type 0} {g : Ghosts S} where
 
   -- the result in the slot that is out is published, or came late and stays out
   abbrev pub Ended : Bool → ℕ → Mine S g → Mine S g → Type 0
-  Ended won k v w = MatchBool won (w ≡ (with_published v.0 k, rest v.1)) (w ≡ (with_late v.0 k, v.1))
+  Ended won k v w =
+      MatchBool won (w ≡ (with_published v.0 k, rest v.1)) (w ≡ (with_late v.0 k, v.1))
 
   -- it was published where the word found was Taken by this seat
   abbrev pub Publishes : Step (Option (Done S g)) → Mine S g → ℕ → Mine S g → Type 0

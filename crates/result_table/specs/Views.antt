@@ -20,7 +20,20 @@ is_number (Some x) k = x == k
 
 -- a seat that knows nothing
 abbrev pub newcomer : {S : Type 0} → S → ℕ → ℕ → View S
-newcomer solver n made = record { number = n; solver = solver; made = made; claimed = []; published = []; lost = []; late = []; filling = None; gathered = []; idle = []; busy = [] }
+newcomer solver n made =
+    record {
+      number = n;
+      solver = solver;
+      made = made;
+      claimed = [];
+      published = [];
+      lost = [];
+      late = [];
+      filling = None;
+      gathered = [];
+      idle = [];
+      busy = [];
+    }
 
 module _ {S : Type 0} where
   -- a view that has claimed task `k` besides

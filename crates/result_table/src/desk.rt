@@ -36,8 +36,11 @@ impl<S: Updates> Desk<S> {
         requires small { size < 2 ^ 32 - 1 }
         ensures desk { IfOk result (λ r. (size_of r.0 ≡ size) × (desk_solver r.0 ≡ solver.now)) }
         ensures count { IfOk result (λ r. vec_len r.1 ≡ seats) }
-        ensures each { IfOk result (λ r. (i : ℕ) (d : _) → i < seats
-            → IsSeatOf r.0 (slice_index_or r.1.items i d) × (view_of (slice_index_or r.1.items i d) ≡ newcomer solver.now i (made_by seats i))) }
+        ensures each { IfOk result
+            (λ r. (i : ℕ) (d : _) → i < seats
+            → IsSeatOf r.0 (slice_index_or r.1.items i d)
+            × (view_of (slice_index_or r.1.items i d)
+            ≡ newcomer solver.now i (made_by seats i))) }
     {
         let words = zeros(alloc, size as usize + 1)?;
         let brief = Brief {
@@ -63,7 +66,8 @@ impl<S: Updates> Desk<S> {
         requires room { (1 ≤ seats) × (seats ≤ vec_capacity all.old) }
         ensures count { vec_len all.new ≡ seats }
         ensures each { (i : ℕ) (d : _) → i < seats
-            → IsNewSeat self.now.table.shared.table_id (desk_solver self.now) (made_by seats i) i (slice_index_or all.new.items i d).seat }
+            → IsNewSeat self.now.table.shared.table_id (desk_solver self.now) (made_by seats i) i
+            (slice_index_or all.new.items i d).seat }
     {
         let mut seat = first;
         let mut number = 1;
@@ -89,7 +93,8 @@ impl<S: Updates> Desk<S> {
         requires seat { IsSeatOf self.now seat.old }
         requires task { k < size_of self.now }
         ensures seat { IsSeatOf self.now seat.new }
-        ensures view { MatchBool result (view_of seat.new ≡ with_claimed (view_of seat.old) k) (view_of seat.new ≡ with_lost (view_of seat.old) k) }
+        ensures view { MatchBool result (view_of seat.new ≡ with_claimed (view_of seat.old) k)
+            (view_of seat.new ≡ with_lost (view_of seat.old) k) }
         ensures fresh { result ≡ true → IsFresh (view_of seat.old) k }
     {
         let taken = Word::Taken(seat.number).code();
@@ -110,7 +115,8 @@ impl<S: Updates> Desk<S> {
             × (has (view_of seat.old).late k ≡ false) }
         requires done { ((task_of done).task ≡ k) × (solver_of done ≡ desk_solver self.now) }
         ensures seat { IsSeatOf self.now seat.new }
-        ensures view { MatchBool result (view_of seat.new ≡ with_published (view_of seat.old) k) (view_of seat.new ≡ with_late (view_of seat.old) k) }
+        ensures view { MatchBool result (view_of seat.new ≡ with_published (view_of seat.old) k)
+            (view_of seat.new ≡ with_late (view_of seat.old) k) }
     {
         let word = k as usize + 1;
         let slot = k as usize;

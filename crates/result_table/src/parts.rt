@@ -13,7 +13,8 @@ use std::alloc::Global;
 pub struct Desk<S: Updates> {
     pub(crate) table: Table<Option<Done<S>>, View<S>, Brief<S>, Ruled<S>, Global>,
     pub(crate) size: u32,
-    ghost sized: { (table.shared.table_id.words ≡ size + 1) × (table.shared.table_id.slots ≡ size) × (table.shared.key.size ≡ size) },
+    ghost sized: { (table.shared.table_id.words ≡ size + 1) × (table.shared.table_id.slots ≡ size)
+        × (table.shared.key.size ≡ size) },
 }
 
 /// A seat at a desk: who claims, publishes and collects there. Contracts see it as what it knows.

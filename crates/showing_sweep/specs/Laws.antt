@@ -19,7 +19,16 @@ AmountsExist = (k : Cuts) (g : Spacetree) (t : ℕ) → IsCutGrid k g → t < k.
 
 -- the numbers that traffic tells
 abbrev pub amounts_in : Traffic → Amounts
-amounts_in x = record { cells = x.cells; stored = x.stored; pushes = x.pushes; hanging = x.hanging; enclave = x.enclave; skeleton = x.skeleton; sent = x.sent }
+amounts_in x =
+    record {
+      cells = x.cells;
+      stored = x.stored;
+      pushes = x.pushes;
+      hanging = x.hanging;
+      enclave = x.enclave;
+      skeleton = x.skeleton;
+      sent = x.sent;
+    }
 
 -- where a grid has at most 200,000 cells and there are at most 64 trees, no number comes to the last value of a count: traffic tells each as it is
 abbrev pub TrafficIsExact : Type 0

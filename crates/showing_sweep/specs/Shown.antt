@@ -62,4 +62,13 @@ pub record IsTraffic (k : Cuts) (g : Spacetree) (t : ℕ) (traffic : Traffic) : 
   pub amounts : Amounts
   pub are : AreAmounts k g t amounts
   pub told : traffic
-      ≡ record { tree = t; cells = capped amounts.cells; stored = capped amounts.stored; pushes = capped amounts.pushes; hanging = capped amounts.hanging; enclave = capped amounts.enclave; skeleton = capped amounts.skeleton; sent = capped amounts.sent }
+      ≡ record {
+        tree = t;
+        cells = capped amounts.cells;
+        stored = capped amounts.stored;
+        pushes = capped amounts.pushes;
+        hanging = capped amounts.hanging;
+        enclave = capped amounts.enclave;
+        skeleton = capped amounts.skeleton;
+        sent = capped amounts.sent;
+      }

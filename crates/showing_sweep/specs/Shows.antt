@@ -24,7 +24,14 @@ pub record ShowWork : Type 0 where
 
 -- its visitor serves sweeps that change nothing, foresees no grid, may want memory and holds no loan
 abbrev pub show_meaning : ShowWork → Meaning
-show_meaning a = record { serves = Plain; dim = a.keys.dim; new_grid = record { dim = a.keys.dim; refined = set.empty }; may_want = true; loan = 0 }
+show_meaning a =
+    record {
+      serves = Plain;
+      dim = a.keys.dim;
+      new_grid = record { dim = a.keys.dim; refined = set.empty };
+      may_want = true;
+      loan = 0;
+    }
 
 -- the counts as a sweep begins
 abbrev pub nothing_counted : CellCounts
@@ -46,7 +53,8 @@ row_in dim v = record { key = v.key; value = value_at_home dim v }
 
 -- one cell more
 abbrev pub with_cell : CellView → CellCounts → CellCounts
-with_cell v n = record n { cells = capped (n.cells + 1); hanging = capped (n.hanging + hanging_in v) }
+with_cell v n =
+    record n { cells = capped (n.cells + 1); hanging = capped (n.hanging + hanging_in v) }
 
 -- one leaf more that the tree owns
 abbrev pub with_leaf : Bool → CellCounts → CellCounts

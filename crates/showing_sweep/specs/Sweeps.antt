@@ -27,10 +27,13 @@ pub record NoteTells (note : Note) (stored pushes : ℕ) : Type 0 where
 
 -- A showing sweep leaves a store that stands for the same grid and field, to be read the other way. The rows are those of the leaves that the tree owns, each once, with their states;
 -- the traffic is the tree's; the note tells what the sweep moved.
-pub record IsShownTree (k : Cuts) (parts : ℕ) (dir : Direction) (g : Spacetree) (f : States) (step : ℕ) (s t : TreeLists) (note : Note) (shown : Shown) : Type 0 where
+pub record IsShownTree (k : Cuts) (parts : ℕ) (dir : Direction) (g : Spacetree) (f : States)
+    (step : ℕ) (s t : TreeLists) (note : Note) (shown : Shown) : Type 0 where
   pub tree : t.tree ≡ s.tree
   pub stands : StandsOn k parts (turned_round dir) g f t
   pub rows : ListsAll (IsRowOf k g f s.tree) shown.rows.items
   pub traffic : IsTraffic k g s.tree shown.traffic
-  pub noted : IsNoted (plain_plan k.depth (range_of k s.tree) dir g) kind.Show step s.tree s.lanes.tale t.lanes.tale note
+  pub noted : IsNoted
+      (plain_plan k.depth
+      (range_of k s.tree) dir g) kind.Show step s.tree s.lanes.tale t.lanes.tale note
   pub moved : NoteTells note shown.traffic.stored shown.traffic.pushes

@@ -82,7 +82,8 @@ pub(crate) fn sent_from(store: &TreeStore, keys: &Keys) -> u64
     requires tree { store.now.tree < (cuts_of keys.now).trees }
     requires vertices { All (λ s. IsVertexOf (cuts_of keys.now) s.key) store.now.lanes.input }
     ensures { NoneTwice (map key_of store.now.lanes.input)
-        → Counts (IsPairOf (cuts_of keys.now) store.now.tree (map key_of store.now.lanes.input)) result }
+        → Counts
+        (IsPairOf (cuts_of keys.now) store.now.tree (map key_of store.now.lanes.input)) result }
 {
     let tree = store.tree();
     let mut sent: u64 = 0;

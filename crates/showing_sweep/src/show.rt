@@ -33,7 +33,12 @@ impl<'a> Model for Show<'a> {
 
     ghost Value = { ShowWork };
 
-    ghost view = { λ s. record { keys = s.keys.now; tree = s.tree; rows = s.rows.items; counts = s.counts } };
+    ghost view = { λ s. record {
+      keys = s.keys.now;
+      tree = s.tree;
+      rows = s.rows.items;
+      counts = s.counts;
+    } };
 
     ghost invariant = { λ s. s.tree < (cuts_of s.keys.now).trees };
 }
@@ -42,7 +47,8 @@ impl<'a> Show<'a> {
     /// A visitor that shows one of the trees of some keys.
     pub fn new(alloc: Global, keys: &'a Keys, tree: u32) -> Show<'a>
         requires { tree < (cuts_of keys.now).trees }
-        ensures { result ≡ record { keys = keys.now; tree = tree; rows = []; counts = nothing_counted } }
+        ensures { result
+            ≡ record { keys = keys.now; tree = tree; rows = []; counts = nothing_counted } }
     {
         Show {
             keys,

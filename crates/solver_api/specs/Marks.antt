@@ -16,7 +16,8 @@ use Rattle.solver_api.specs.Parts.{side_on}
 -- the sides that count: in a plane those on axis 2 do not
 abbrev pub faces_of : Dim → Sides → List Side
 faces_of Two s = side_on s.low 0 ∷ side_on s.high 0 ∷ side_on s.low 1 ∷ side_on s.high 1 ∷ []
-faces_of Three s = side_on s.low 0 ∷ side_on s.high 0 ∷ side_on s.low 1 ∷ side_on s.high 1 ∷ side_on s.low 2 ∷ side_on s.high 2 ∷ []
+faces_of Three s = side_on s.low 0 ∷ side_on s.high 0 ∷ side_on s.low 1 ∷ side_on s.high 1
+    ∷ side_on s.low 2 ∷ side_on s.high 2 ∷ []
 
 -- how far a component across a face lies from the leaf's own, none at the domain's edge
 abbrev pub difference : ℕ → State → Side → Option ℕ
@@ -41,7 +42,11 @@ is_below bound (Some d) = int_lt (pos d) bound
 -- the mark of a leaf of a level: refined where some difference is at least `hi` and the level is above the depth, coarsened where all are below `lo`
 abbrev pub mark_by : Dim → Option Criterion → State → Sides → ℕ → Mark
 mark_by dim None own sides level = Keep
-mark_by dim (Some c) own sides level = if list_any (is_at_least c.hi) (differences dim c.watch own sides) && nat_lt level c.depth then Refine else (if list_all (is_below c.lo) (differences dim c.watch own sides) then Coarsen else Keep)
+mark_by dim (Some c) own sides level = if list_any (is_at_least c.hi)
+    (differences dim c.watch own sides)
+    && nat_lt level c.depth
+    then Refine
+    else (if list_all (is_below c.lo) (differences dim c.watch own sides) then Coarsen else Keep)
 
 -- whether there is a criterion
 abbrev pub has_criterion : Option Criterion → Bool

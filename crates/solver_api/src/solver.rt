@@ -50,14 +50,18 @@ pub trait Solver: Send + Sync + Drop {
         ensures { result ≡ marked self.now own.now sides.now level };
 
     // a new state has as many values as the old one
-    ghost parts_stay: { (s : Self) (own : State) (sides : Sides) (level : ℕ) (new : State) → HaveParts (parts_of s) own sides → updated s own sides level ≡ Some new → count_of new ≡ parts_of s };
+    ghost parts_stay: { (s : Self) (own : State) (sides : Sides) (level : ℕ) (new : State)
+        → HaveParts (parts_of s) own sides → updated s own sides level ≡ Some new
+        → count_of new ≡ parts_of s };
 
     // a solver that does not adapt keeps each leaf
-    ghost keeps_all: { (s : Self) (own : State) (sides : Sides) (level : ℕ) → adapting s ≡ false → marked s own sides level ≡ Keep };
+    ghost keeps_all: { (s : Self) (own : State) (sides : Sides) (level : ℕ) → adapting s ≡ false
+        → marked s own sides level ≡ Keep };
 
     // and refines down to no level
     ghost no_depth: { (s : Self) → adapting s ≡ false → deepest_of s ≡ 0 };
 
     // a leaf that is refined is of a level above the deepest
-    ghost refines_above: { (s : Self) (own : State) (sides : Sides) (level : ℕ) → marked s own sides level ≡ Refine → level < deepest_of s };
+    ghost refines_above: { (s : Self) (own : State) (sides : Sides) (level : ℕ)
+        → marked s own sides level ≡ Refine → level < deepest_of s };
 }

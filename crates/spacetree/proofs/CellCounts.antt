@@ -51,7 +51,7 @@ len_kept (suc n) s t e kept = elim (member s) [
 pub len_by_kept : (s t : Cells) → IsKept s t → set.len s ≤ set.len t
 len_by_kept s t kept = len_kept (set.len s) s t refl kept
 
-more_cells : (dim : Dim) (m n : ℕ) → m ≤ n → cells_for dim m ≤ cells_for dim n
+pub more_cells : (dim : Dim) (m n : ℕ) → m ≤ n → cells_for dim m ≤ cells_for dim n
 more_cells dim m n h = omega (arith, mul-le-mul_left (3 ^ axes dim) h)
 
 -- where some refined cells are too many, no opening grid is small

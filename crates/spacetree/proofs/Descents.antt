@@ -4,7 +4,6 @@ use Rattle.std.specs.FinSet as set
 use Rattle.std.proofs.lemmas.List.Elements.{filter_passes}
 use Rattle.std.proofs.lemmas.Bool.{false≢true}
 use Rattle.peano_keys.specs.declared.dim.Dim.{Dim}
-use Rattle.peano_keys.specs.declared.dim.Dim.TheVariants.{Two, Three}
 use Rattle.peano_keys.specs.declared.cell.CellKey.{CellKey}
 use Rattle.peano_keys.specs.Cell.{IsCell, parent_of, root}
 use Rattle.peano_keys.specs.Grid.{Cells}
@@ -14,7 +13,7 @@ use Rattle.spacetree.specs.Opening.{OpensRefined, ZoneRefines, zone_refines}
 use Rattle.spacetree.specs.Build.{IsZone, IsUnder, HasOpenedUnder, StandsFor, ancestor_of}
 use Rattle.spacetree.proofs.Children.{root_is}
 use Rattle.spacetree.proofs.Children.{parent_cell}
-use Rattle.spacetree.proofs.Openings.{ancestor_level, ancestor_opens, ancestor_zone, any_weaker}
+use Rattle.spacetree.proofs.Openings.{ancestor_level, ancestor_opens, ancestor_zone}
 
 module _ {X : Type 0} (P : X → Type 0) where
   pub any_cons : (x : X) (xs : List X) → P x ⊎ Any P xs → Any P (x ∷ xs)

@@ -11,6 +11,7 @@ use Rattle.peano_keys.specs.declared.side.Mark.TheVariants.{Coarsen}
 use Rattle.peano_keys.specs.Dim.{axes}
 use Rattle.peano_keys.specs.Cell.{IsCell, IsDigits, child_of}
 use Rattle.peano_keys.specs.Grid.{Spacetree, IsGrid, is_refined, is_leaf}
+use Rattle.peano_keys.specs.Field.{value_of}
 use Rattle.peano_keys.specs.Next.{Splits, Merges}
 use Rattle.solver_api.specs.Step.{IsLeafOf, new_state, marks_of, source_of}
 use Rattle.spacetree.specs.Digits.{digits_at, number_in}
@@ -19,7 +20,6 @@ use Rattle.spacetree.proofs.Children.{child_cell, child_by_number, number_bound,
 use Rattle.spacetree.proofs.Collected.{collect, tabulate}
 use Rattle.spacetree.proofs.Leaves.{leaf_there, refined_there}
 use Rattle.spacetree.proofs.AllCells.{all_cells, listed}
-use Rattle.spacetree.proofs.NextGrids.{source_is_leaf}
 use Rattle.spacetree.proofs.Told.{Told, true_told, refine_told, coarsen_told, leaf_told, both_told, each_told}
 
 digits_at_are : (dim : Dim) (n : ℕ) → n < 3 ^ axes dim → IsDigits dim (digits_at dim n)
@@ -93,14 +93,21 @@ some_of (Some s) d h = refl
 pub step_exists : StepExists
 step_exists updated marked g f grid updates =
     let next = next_grid_exists g (marks_of marked g f) grid in
-    let v : CellKey → State = λ c. unwrap_or (new_state updated g f (source_of g c)) (Single (pos 0)) in
-    let m = tabulate (IsLeafOf next.0) (leaf_told next.0) v (all_cells next.0) in (
+    let v : CellKey → State = λ c. unwrap_or (new_state updated g f c) (Single (pos 0)) in
+    let s = tabulate (IsLeafOf g) (leaf_told g) v (all_cells g) in
+    let w : CellKey → State = λ c. value_of g s.0 (source_of g c) in
+    let m = tabulate (IsLeafOf next.0) (leaf_told next.0) w (all_cells next.0) in (
       next.0,
       m.0,
       record {
-        updates = updates;
+        states = s.0;
+        made = record {
+          updates = updates;
+          leaves = λ c leaf. s.1.has c (listed g c leaf.cell (leaf_there g c leaf)) leaf ∙ some_of (new_state updated g f c) (Single (pos 0)) (updates c leaf);
+          others = λ c apart. s.1.none c apart;
+        };
         grid = next.1;
-        leaves = λ c leaf. m.1.has c (listed next.0 c leaf.cell (leaf_there next.0 c leaf)) leaf ∙ some_of (new_state updated g f (source_of g c)) (Single (pos 0)) (updates (source_of g c) (source_is_leaf g next.0 (marks_of marked g f) c grid next.1 leaf));
+        leaves = λ c leaf. m.1.has c (listed next.0 c leaf.cell (leaf_there next.0 c leaf)) leaf;
         others = λ c apart. m.1.none c apart;
       },
     )

@@ -25,3 +25,8 @@ pub mod LeafCounts
 pub mod Corners
 pub mod Covering
 pub mod Merged
+pub mod Totals
+pub mod SortedCells
+pub mod LeafLists
+pub mod JoinedCells
+pub mod StateLists

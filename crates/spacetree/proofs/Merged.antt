@@ -1,19 +1,24 @@
 -- What a cell that merges has in the next field: its value in the field of the new states.
-use Rattle.std.proofs.Common.{◌≡◌, inl, inr, ℕ, zero, suc, ◌-◌, ◌<◌, ◌==◌, ◌&&◌, not, Bool, true, false, cond, refl, sym, ap, ap₂, subst, ◌∙◌, arith, Some, IsSome}
-use Rattle.std.specs.FinMap as map
-use Rattle.std.proofs.lemmas.Bool.{false≢true, cases_eq, or_left, or_right}
+use Rattle.std.proofs.Common.{◌≡◌, inl, inr, ℕ, zero, suc, ◌+◌, ◌-◌, ◌<◌, ◌==◌, pos, ◌*ℤ◌, Bool, true, false, List, refl, sym, ap, subst, ◌∙◌, arith, Some, unwrap_or}
+use Rattle.std.proofs.lemmas.Bool.{cases_eq, or_left, or_right}
 use Rattle.peano_keys.specs.declared.dim.Dim.{Dim}
 use Rattle.peano_keys.specs.declared.cell.CellKey.{CellKey}
 use Rattle.peano_keys.specs.declared.side.Mark.{Mark}
-use Rattle.peano_keys.specs.Cell.{IsCell, parent_of, centre_child, centre_digits}
+use Rattle.peano_keys.specs.declared.state.State.TheVariants.{Single}
+use Rattle.peano_keys.specs.Cell.{IsCell, IsDigits, parent_of, child_of, centre_child, centre_digits}
+use Rattle.peano_keys.specs.State.{value_at}
 use Rattle.peano_keys.specs.Grid.{Spacetree, IsGrid, is_refined, has_cell}
-use Rattle.peano_keys.specs.Field.{States, state_at, centre_state, value_of}
+use Rattle.peano_keys.specs.Field.{States, state_at, centre_state, state_like, component_of, value_of}
+use Rattle.peano_keys.specs.Sums.{weight, cell_weight, leaf_sum, floor_of}
 use Rattle.peano_keys.specs.Next.{Merges, IsNextGrid}
-use Rattle.solver_api.specs.Step.{IsLeafOf, marks_of, new_state, source_of}
+use Rattle.solver_api.specs.Step.{IsLeafOf, marks_of}
 use Rattle.spacetree.specs.Laws.{MergeTakesValue}
-use Rattle.spacetree.proofs.Children.{child_cell}
-use Rattle.spacetree.proofs.Givens.{there}
-use Rattle.spacetree.proofs.Leaves.{leaf_from, unrefined}
+use Rattle.cell_sums.proofs.Sums.{over_same, sum_plain, sum_refined}
+use Rattle.cell_sums.proofs.Means.{centre_plain, centre_refined, value_refined}
+use Rattle.spacetree.specs.Leaves.{IsCellOf}
+use Rattle.spacetree.proofs.Children.{child_cell, third_digit}
+use Rattle.spacetree.proofs.Leaves.{child_there, leaf_from, refined_there}
+use Rattle.spacetree.proofs.Steps.{source_here}
 use Rattle.spacetree.proofs.NextGrids.{leaf_refined, stays_if_child}
 use Rattle.spacetree.proofs.Values.{centre_is_digits}
 
@@ -33,34 +38,39 @@ merged_leaf t new marks c grid next merges =
     ] in
     leaf_from new c (subst (λ (d : Dim). IsCell d c) (sym next.dim) cell) has (false_if (is_refined new c) (λ e. elim ((next.refined c).0 e) [ inl split ↦ leaf_refined t c merges.refined split.leaf | inr kept ↦ kept.1 merges ]))
 
-no_leaf : (a b : Bool) → b ≡ true → (a && not b) ≡ false
-no_leaf true true h = refl
-no_leaf false true h = refl
-no_leaf a false h = absurd (false≢true h)
+-- fields that agree on the leaves of a grid give each refined cell the same value
+module _ (t : Spacetree) (grid : IsGrid 12 t) (f g : States) (same : (q : CellKey) → IsLeafOf t q → state_at f q ≡ state_at g q) where
+  no_more : (c : CellKey) → c.level + 0 ≡ 12 → is_refined t c ≡ false
+  no_more c e = false_if (is_refined t c) (λ h. omega (arith, grid.levels c h, e))
 
--- it comes from its centre child
-from_centre : (t : Spacetree) (c : CellKey) → is_refined t c ≡ true → source_of t c ≡ centre_child t.dim c
-from_centre t c h = ap₂ (λ (a b : Bool). cond a c (cond b (centre_child t.dim c) (parent_of c))) (no_leaf (has_cell t c) (is_refined t c) h) h
+  child_in : (c : CellKey) (k : List ℕ) → is_refined t c ≡ true → IsDigits t.dim k → IsCellOf t (child_of c k)
+  child_in c k h d = (let cell = grid.cells c h in record { cell = child_cell t.dim c k cell (grid.levels c h) d; there = child_there t c k cell.shape d.first d.second (third_digit t.dim k d) h })
 
-at_leaf : (levels : ℕ) (t : Spacetree) (f : States) (q : CellKey) → is_refined t q ≡ false → centre_state levels t f q ≡ state_at f q
-at_leaf zero t f q h = refl
-at_leaf (suc levels) t f q h = ap (λ b. cond b (centre_state levels t f (centre_child t.dim q)) (state_at f q)) h
+  same_sum : (i n : ℕ) (c : CellKey) → IsCellOf t c → c.level + n ≡ 12 → leaf_sum t (component_of f i) n c ≡ leaf_sum t (component_of g i) n c
+  same_sum i zero c in_grid e = ap (λ s. value_at s i *ℤ pos (weight t.dim zero)) (same c (leaf_from t c in_grid.cell in_grid.there (no_more c e)))
+  same_sum i (suc n) c in_grid e = elim (is_refined t c) as (λ b. is_refined t c ≡ b → leaf_sum t (component_of f i) (suc n) c ≡ leaf_sum t (component_of g i) (suc n) c) [
+    | true ↦ λ h. sum_refined t (component_of f i) n c h ∙ over_same t.dim _ _ (λ k d. same_sum i n (child_of c k) (child_in c k h d) (omega (arith, e))) ∙ sym (sum_refined t (component_of g i) n c h)
+    | false ↦ λ h. sum_plain t (component_of f i) (suc n) c h ∙ ap (λ s. value_at s i *ℤ pos (weight t.dim (suc n))) (same c (leaf_from t c in_grid.cell in_grid.there h)) ∙ sym (sum_plain t (component_of g i) (suc n) c h)
+  ] refl
 
--- whose state is its value
-value_is : (t : Spacetree) (f : States) (c : CellKey) → c.level < 12 → is_refined t c ≡ true → is_refined t (centre_child t.dim c) ≡ false → value_of t f c ≡ state_at f (centre_child t.dim c)
-value_is t f c room refined inner =
-    let levels : 12 - c.level ≡ suc (11 - c.level) = omega (arith, room) in
-    ap (λ n. centre_state n t f c) levels
-    ∙ ap (λ b. cond b (centre_state (11 - c.level) t f (centre_child t.dim c)) (state_at f c)) refined
-    ∙ at_leaf (11 - c.level) t f (centre_child t.dim c) inner
+  same_centre : (n : ℕ) (c : CellKey) → IsCellOf t c → c.level + n ≡ 12 → centre_state n t f c ≡ centre_state n t g c
+  same_centre zero c in_grid e = same c (leaf_from t c in_grid.cell in_grid.there (no_more c e))
+  same_centre (suc n) c in_grid e = elim (is_refined t c) as (λ b. is_refined t c ≡ b → centre_state (suc n) t f c ≡ centre_state (suc n) t g c) [
+    | true ↦ λ h. centre_refined n t f c h ∙ same_centre n (centre_child t.dim c) (child_in c (centre_digits t.dim) h (centre_is_digits t.dim)) (omega (arith, e)) ∙ sym (centre_refined n t g c h)
+    | false ↦ λ h. centre_plain (suc n) t f c h ∙ same c (leaf_from t c in_grid.cell in_grid.there h) ∙ sym (centre_plain (suc n) t g c h)
+  ] refl
+
+  pub same_value : (c : CellKey) → is_refined t c ≡ true → value_of t f c ≡ value_of t g c
+  same_value c h =
+      let in_grid : IsCellOf t c = record { cell = grid.cells c h; there = refined_there 12 t c grid h } in
+      let rest : c.level + (12 - c.level) ≡ 12 = omega (arith, grid.levels c h) in
+      let centre = same_centre (12 - c.level) c in_grid rest in
+      value_refined 12 t f c h
+      ∙ (λ j. state_like (centre j) (λ i. floor_of (same_sum i (12 - c.level) c in_grid rest j) (cell_weight 12 t.dim c)))
+      ∙ sym (value_refined 12 t g c h)
 
 pub merge_takes_value : MergeTakesValue
 merge_takes_value updated marked t f new after states grid has step c merges =
-    let q : CellKey = centre_child t.dim c in
-    let digits = centre_is_digits t.dim in
-    let room = grid.levels c merges.refined in
-    let inner : IsLeafOf t q = record { cell = child_cell t.dim c (centre_digits t.dim) (grid.cells c merges.refined) room digits; leaf = merges.leaves (centre_digits t.dim) digits } in
-    let leaf = merged_leaf t new (marks_of marked t f) c grid step.grid merges in
-    let state : map.get after c ≡ map.get states q = step.leaves c leaf ∙ ap (new_state updated t f) (from_centre t c merges.refined) ∙ sym (has q inner) in
-    let some : IsSome (map.get states q) = subst (λ o. IsSome o) (sym (has q inner)) (step.updates q inner) in
-    state ∙ sym (there (map.get states q) _ some) ∙ ap Some (sym (value_is t states c room merges.refined (unrefined t q inner)))
+    let agree : (q : CellKey) → IsLeafOf t q → state_at step.states q ≡ state_at states q = λ q leaf. ap (λ o. unwrap_or o (Single (pos 0))) (step.made.leaves q leaf ∙ sym (has q leaf)) in
+    step.leaves c (merged_leaf t new (marks_of marked t f) c grid step.grid merges)
+    ∙ ap Some (ap (value_of t step.states) (source_here t c (refined_there 12 t c grid merges.refined)) ∙ same_value t grid step.states states agree c merges.refined)

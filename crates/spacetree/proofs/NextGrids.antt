@@ -1,4 +1,4 @@
--- The next grid is a grid, and each of its leaves comes from a leaf of the old one.
+-- The next grid is a grid, and each of its leaves comes from a cell of the old one.
 use Rattle.std.proofs.Common.{zero, suc, ◌%◌, ◌<◌, ◌==◌, ◌&&◌, not, length, arith, ◌≡◌, ℕ, List, Bool, true, false, cond, refl, sym, ◌∙◌, subst, inl, inr, Option, Some, IsSome, IfSome, None}
 use Rattle.std.specs.FinMap as map
 use Rattle.std.proofs.lemmas.Bool.{false≢true, or_parts}
@@ -9,20 +9,20 @@ use Rattle.peano_keys.specs.declared.state.State.{State}
 use Rattle.peano_keys.specs.declared.side.Mark.{Mark}
 use Rattle.peano_keys.specs.declared.side.Mark.TheVariants.{Refine, Coarsen}
 use Rattle.peano_keys.specs.State.{count_of}
-use Rattle.peano_keys.specs.Cell.{IsCell, IsDigits, at, triple, parent_of, child_of, centre_child, centre_digits}
+use Rattle.peano_keys.specs.Cell.{IsCell, IsDigits, at, triple, parent_of, child_of}
 use Rattle.peano_keys.specs.Grid.{Cells, Spacetree, IsGrid, is_refined, has_cell, is_leaf}
-use Rattle.peano_keys.specs.Field.{States, state_at}
+use Rattle.peano_keys.specs.Field.{States, value_of}
 use Rattle.peano_keys.specs.Next.{Merges, IsNextGrid}
 use Rattle.solver_api.specs.Step.{UpdateRule, MarkRule, IsLeafOf, IsStep, marks_of, source_of}
-use Rattle.spacetree.specs.Leaves.{ListsCells}
+use Rattle.spacetree.specs.Leaves.{IsCellOf, ListsCells}
 use Rattle.spacetree.specs.Fields.{IsFieldOn}
 use Rattle.spacetree.specs.Marked.{AreMarked, HasChildren, HasNewStates, Inherits}
 use Rattle.spacetree.proofs.Children.{child_cell, key_from_parts}
-use Rattle.spacetree.proofs.Givens.{there, away}
-use Rattle.spacetree.proofs.Leaves.{unrefined, leaf_there, parent_refined}
+use Rattle.spacetree.proofs.Givens.{away}
+use Rattle.spacetree.proofs.Leaves.{leaf_there, parent_refined}
 use Rattle.spacetree.proofs.Sifts.{Sifts}
-use Rattle.spacetree.proofs.Steps.{updates_made}
-use Rattle.spacetree.proofs.Values.{centre_is_digits, count_at_leaf}
+use Rattle.spacetree.proofs.Steps.{new_states}
+use Rattle.spacetree.proofs.Values.{count_of_value}
 
 -- the digits of a cell in its parent
 abbrev digits_in : CellKey → List ℕ
@@ -94,17 +94,8 @@ next_from_sets t marks refine coarsen s parents grid lists marked sifts = record
   );
 }
 
--- a leaf of the next grid that the old one has refined comes from its centre child
-merged : (t new : Spacetree) (marks : CellKey → Mark) (c : CellKey) → IsGrid 12 t → IsNextGrid t marks new → IsLeafOf new c → is_refined t c ≡ true → IsLeafOf t (centre_child t.dim c)
-merged t new marks c grid next leaf old =
-    let digits = centre_is_digits t.dim in
-    record {
-      cell = child_cell t.dim c (centre_digits t.dim) (grid.cells c old) (grid.levels c old) digits;
-      leaf = stable (is_leaf t (centre_child t.dim c)) (λ apart. false≢true (sym (unrefined new c leaf) ∙ (next.refined c).1 (inr (old, λ (m : Merges t marks c). apart (m.leaves (centre_digits t.dim) digits)))));
-    }
-
--- one that the old one does not have comes from its parent
-was_split : (t new : Spacetree) (marks : CellKey → Mark) (c : CellKey) → IsNextGrid t marks new → IsLeafOf new c → has_cell t c ≡ false → IsLeafOf t (parent_of c)
+-- a leaf of the next grid that the old one does not have comes from its parent, a leaf of the old one
+pub was_split : (t new : Spacetree) (marks : CellKey → Mark) (c : CellKey) → IsNextGrid t marks new → IsLeafOf new c → has_cell t c ≡ false → IsLeafOf t (parent_of c)
 was_split t new marks c next leaf away =
     let parts = or_parts (c.level == 0) (is_refined t (parent_of c)) away in
     elim ((next.refined (parent_of c)).0 (parent_refined new c (pos (c.level) parts.0) (leaf_there new c leaf))) [
@@ -115,14 +106,12 @@ was_split t new marks c next leaf away =
       pos zero h = absurd (false≢true (sym h))
       pos (suc l) h = omega arith
 
--- each leaf of the next grid comes from a leaf of the old one
-pub source_is_leaf : (t new : Spacetree) (marks : CellKey → Mark) (c : CellKey) → IsGrid 12 t → IsNextGrid t marks new → IsLeafOf new c → IsLeafOf t (source_of t c)
-source_is_leaf t new marks c grid next leaf = go (is_leaf t c) (is_refined t c) (has_cell t c) refl refl refl where
-  go : (own refined has : Bool) → is_leaf t c ≡ own → is_refined t c ≡ refined → has_cell t c ≡ has → IsLeafOf t (cond own c (cond refined (centre_child t.dim c) (parent_of c)))
-  go true refined has own r h = record { cell = subst (λ (d : Dim). IsCell d c) next.dim leaf.cell; leaf = own }
-  go false true has own r h = merged t new marks c grid next leaf r
-  go false false true own r h = absurd (false≢true (sym own ∙ (λ i. h i && not (r i))))
-  go false false false own r h = was_split t new marks c next leaf h
+-- so the source of a leaf of the next grid is a cell of the old one
+pub source_is_cell : (t new : Spacetree) (marks : CellKey → Mark) (c : CellKey) → IsNextGrid t marks new → IsLeafOf new c → IsCellOf t (source_of t c)
+source_is_cell t new marks c next leaf = elim (has_cell t c) as (λ b. has_cell t c ≡ b → IsCellOf t (cond b c (parent_of c))) [
+  | true ↦ λ here. record { cell = subst (λ (d : Dim). IsCell d c) next.dim leaf.cell; there = here }
+  | false ↦ λ away. let up = was_split t new marks c next leaf away in record { cell = up.cell; there = leaf_there t (parent_of c) up }
+] refl
 
 if_some : (o : Option State) (P : State → Type 0) (v : State) → (IsSome o → (o ≡ Some v) × P v) → IfSome o P
 if_some None P v f = tt
@@ -132,18 +121,18 @@ if_some (Some s) P v f = let known = f refl in subst (λ o. IfSome o P) (sym kno
 pub field_on_next : (parts : ℕ) (t new : Spacetree) (marks : CellKey → Mark) (states after : States) → IsGrid 12 t → IsNextGrid t marks new → IsFieldOn parts t states → Inherits t new states after → IsFieldOn parts new after
 field_on_next parts t new marks states after grid next field inherits = record {
   leaves = inherits.keys;
-  counts = λ c. if_some (map.get after c) (λ s. count_of s ≡ parts) (state_at states (source_of t c)) (λ some.
+  counts = λ c. if_some (map.get after c) (λ s. count_of s ≡ parts) (value_of t states (source_of t c)) (λ some.
       let leaf = (inherits.keys c).0 some in
-      (inherits.values c leaf, count_at_leaf parts t states (source_of t c) field (source_is_leaf t new marks c grid next leaf)));
+      let source = source_is_cell t new marks c next leaf in
+      (inherits.values c leaf, count_of_value 12 parts t states (source_of t c) (omega arith) grid field source.cell source.there));
 }
 
 -- and the next field
 pub step_to_next : (updated : UpdateRule) (marked : MarkRule) (parts : ℕ) (t : Spacetree) (f : States) (new : Spacetree) (states after : States) → IsGrid 12 t → IsNextGrid t (marks_of marked t f) new → IsFieldOn parts t states → HasNewStates updated t f states → Inherits t new states after → IsStep updated marked t f new after
 step_to_next updated marked parts t f new states after grid next field has inherits = record {
-  updates = updates_made updated parts t f states field has;
+  states = states;
+  made = new_states updated parts t f states field has;
   grid = next;
-  leaves = λ c leaf.
-      let source = source_is_leaf t new (marks_of marked t f) c grid next leaf in
-      inherits.values c leaf ∙ there (map.get states (source_of t c)) _ ((field.leaves (source_of t c)).1 source) ∙ has (source_of t c) source;
+  leaves = inherits.values;
   others = λ c apart. away (map.get after c) (λ e. apart ((inherits.keys c).0 e));
 }

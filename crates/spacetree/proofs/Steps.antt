@@ -1,5 +1,5 @@
 -- A step on a grid that stays, the first leaf that fails, and steps after one another.
-use Rattle.std.proofs.Common.{zero, suc, ◌+◌, ◌<◌, length, take, get_or, arith, add-one, ◌≡◌, ℕ, List, [], ◌∷◌, Bool, true, false, cond, refl, ap, sym, ◌∙◌, subst, inl, inr, Option, None, IsSome, IsNone, Result, Ok, Err, IsErrAnd, IfErr}
+use Rattle.std.proofs.Common.{zero, suc, ◌+◌, ◌<◌, length, take, get_or, arith, add-one, ◌≡◌, ℕ, List, [], ◌∷◌, Bool, true, false, cond, refl, ap, sym, ◌∙◌, subst, inl, inr, Option, Some, None, IsSome, IsNone, Result, Ok, Err, IsErrAnd, IfErr}
 use Rattle.std.specs.FinMap as map
 use Rattle.std.specs.FinSet as set
 use Rattle.std.specs.List.{AllByRecursion}
@@ -14,10 +14,11 @@ use Rattle.peano_keys.specs.declared.state.State.{State}
 use Rattle.peano_keys.specs.declared.side.Mark.{Mark}
 use Rattle.peano_keys.specs.declared.side.Mark.TheVariants.{Keep, Refine, Coarsen}
 use Rattle.peano_keys.specs.Cell.{parent_of, centre_child, centre_digits, key_cmp}
-use Rattle.peano_keys.specs.Grid.{Cells, IsGrid, Spacetree, is_refined}
-use Rattle.peano_keys.specs.Field.{States}
+use Rattle.peano_keys.specs.Grid.{Cells, IsGrid, Spacetree, has_cell}
+use Rattle.peano_keys.specs.Field.{States, value_of}
 use Rattle.peano_keys.specs.Next.{IsNextGrid, Merges}
-use Rattle.solver_api.specs.Step.{UpdateRule, MarkRule, IsLeafOf, IsStep, Overflows, marks_of, new_state, source_of}
+use Rattle.cell_sums.proofs.Means.{value_plain}
+use Rattle.solver_api.specs.Step.{UpdateRule, MarkRule, AreNewStates, IsLeafOf, IsStep, Overflows, marks_of, new_state, source_of}
 use Rattle.spacetree.specs.declared.fault.EvalFault.{EvalFault}
 use Rattle.spacetree.specs.declared.fault.EvalFault.TheVariants.{Overflow, Crowded, NoMemory}
 use Rattle.spacetree.specs.Leaves.{is_among, ListsLeaves}
@@ -27,7 +28,8 @@ use Rattle.spacetree.specs.Marked.{AreMarked, HasMarked, HasNewStates, NextFails
 use Rattle.spacetree.proofs.CellMaps.{cells_total, exact_cells}
 use Rattle.spacetree.proofs.CellSets.{same_key, among_at}
 use Rattle.spacetree.proofs.Children.{child_cell}
-use Rattle.spacetree.proofs.Givens.{away}
+use Rattle.spacetree.proofs.Givens.{there, away}
+use Rattle.spacetree.proofs.Leaves.{leaf_there, unrefined}
 use Rattle.spacetree.proofs.Values.{centre_is_digits}
 
 keep_refines : (m : Mark) → m ≡ Keep → m ≡ Refine → ⊥
@@ -55,19 +57,39 @@ same_grid t marks grid whole fine = record {
   );
 }
 
-own_source : (t : Spacetree) (c : CellKey) → IsLeafOf t c → source_of t c ≡ c
-own_source t c leaf = ap (λ b. cond b c (cond (is_refined t c) (centre_child t.dim c) (parent_of c))) leaf.leaf
+-- a cell of the old grid is its own source
+pub source_here : (t : Spacetree) (c : CellKey) → has_cell t c ≡ true → source_of t c ≡ c
+source_here t c here = ap (λ b. cond b c (parent_of c)) here
+
+-- that of another cell is its parent
+pub source_away : (t : Spacetree) (c : CellKey) → has_cell t c ≡ false → source_of t c ≡ parent_of c
+source_away t c away = ap (λ b. cond b c (parent_of c)) away
 
 -- the leaves whose new states are a field have each one
 pub updates_made : (updated : UpdateRule) (parts : ℕ) (t : Spacetree) (f states : States) → IsFieldOn parts t states → HasNewStates updated t f states → (c : CellKey) → IsLeafOf t c → IsSome (new_state updated t f c)
 updates_made updated parts t f states field new c leaf = subst (λ (o : Option State). IsSome o) (new c leaf) ((field.leaves c).1 leaf)
 
--- and the new states of the leaves are the next field
+-- and they are the field of new states
+pub new_states : (updated : UpdateRule) (parts : ℕ) (t : Spacetree) (f states : States) → IsFieldOn parts t states → HasNewStates updated t f states → AreNewStates updated t f states
+new_states updated parts t f states field new = record {
+  updates = updates_made updated parts t f states field new;
+  leaves = new;
+  others = λ c apart. away (map.get states c) (λ e. apart ((field.leaves c).0 e));
+}
+
+-- the state of a leaf is the value of its source
+own_value : (parts : ℕ) (t : Spacetree) (f : States) (c : CellKey) → IsFieldOn parts t f → IsLeafOf t c → map.get f c ≡ Some (value_of t f (source_of t c))
+own_value parts t f c field leaf =
+    sym (there (map.get f c) _ ((field.leaves c).1 leaf))
+    ∙ ap Some (sym (value_plain 12 t f c (unrefined t c leaf)) ∙ ap (value_of t f) (sym (source_here t c (leaf_there t c leaf))))
+
+-- where the grid stays that is the next field
 step_on_same_grid : (updated : UpdateRule) (marked : MarkRule) (parts : ℕ) (t : Spacetree) (f next : States) → IsGrid 12 t → IsFieldOn parts t next → HasNewStates updated t f next → NoneHas t (marks_of marked t f) Refine → NoneHas t (marks_of marked t f) Coarsen → IsStep updated marked t f t next
 step_on_same_grid updated marked parts t f next grid field new whole fine = record {
-  updates = updates_made updated parts t f next field new;
+  states = next;
+  made = new_states updated parts t f next field new;
   grid = same_grid t (marks_of marked t f) grid whole fine;
-  leaves = λ c leaf. new c leaf ∙ ap (new_state updated t f) (sym (own_source t c leaf));
+  leaves = λ c leaf. own_value parts t next c field leaf;
   others = λ c apart. away (map.get next c) (λ e. apart ((field.leaves c).0 e));
 }
 

@@ -12,9 +12,9 @@ use Rattle.peano_keys.specs.declared.state.State.{State}
 use Rattle.peano_keys.specs.declared.side.Mark.{Mark}
 use Rattle.peano_keys.specs.Cell.{key_cmp}
 use Rattle.peano_keys.specs.Grid.{Spacetree, is_refined}
-use Rattle.peano_keys.specs.Field.{States}
+use Rattle.peano_keys.specs.Field.{States, value_of}
 use Rattle.peano_keys.specs.Next.{IsNextGrid}
-use Rattle.solver_api.specs.Step.{UpdateRule, MarkRule, IsStep, Overflows, marks_of, new_state}
+use Rattle.solver_api.specs.Step.{UpdateRule, MarkRule, AreNewStates, IsStep, Overflows, marks_of, new_state, source_of}
 use Rattle.spacetree.specs.Counts.{cells_of}
 use Rattle.spacetree.specs.declared.shape.Shape.{Shape}
 use Rattle.spacetree.specs.declared.shape.Fill.{Fill}
@@ -24,7 +24,7 @@ use Rattle.spacetree.proofs.CellMaps.{cells_total, exact_cells}
 use Rattle.spacetree.proofs.Told.{leaf_told}
 
 -- a grid is told by its refined cells
-same_grid : (a b : Spacetree) → a.dim ≡ b.dim → ((c : CellKey) → is_refined a c ≡ is_refined b c) → a ≡ b
+pub same_grid : (a b : Spacetree) → a.dim ≡ b.dim → ((c : CellKey) → is_refined a c ≡ is_refined b c) → a ≡ b
 same_grid a b dims refined =
     let sets : a.refined ≡ b.refined = set.same_set cells_total exact_cells a.refined b.refined refined in
     λ i. record { dim = dims i; refined = sets i }
@@ -44,9 +44,16 @@ one_opening_field t fills parts a b h g = map.same_map cells_total exact_cells a
 one_grid : (old : Spacetree) (marks : CellKey → Mark) (a b : Spacetree) → IsNextGrid old marks a → IsNextGrid old marks b → a ≡ b
 one_grid old marks a b h g = same_grid a b (h.dim ∙ sym g.dim) (λ c. both_ways (is_refined a c) (is_refined b c) (λ e. (g.refined c).1 ((h.refined c).0 e)) (λ e. (h.refined c).1 ((g.refined c).0 e)))
 
+-- a field has one field of new states
+one_states : (updated : UpdateRule) (t : Spacetree) (f a b : States) → AreNewStates updated t f a → AreNewStates updated t f b → a ≡ b
+one_states updated t f a b h g = map.same_map cells_total exact_cells a b (λ c. elim (leaf_told t c) [
+  | inl leaf ↦ h.leaves c leaf ∙ sym (g.leaves c leaf)
+  | inr apart ↦ h.others c apart ∙ sym (g.others c apart)
+])
+
 one_field : (updated : UpdateRule) (marked : MarkRule) (t : Spacetree) (f : States) (new : Spacetree) (a b : States) → IsStep updated marked t f new a → IsStep updated marked t f new b → a ≡ b
 one_field updated marked t f new a b h g = map.same_map cells_total exact_cells a b (λ c. elim (leaf_told new c) [
-  | inl leaf ↦ h.leaves c leaf ∙ sym (g.leaves c leaf)
+  | inl leaf ↦ h.leaves c leaf ∙ ap (λ (s : States). Some (value_of t s (source_of t c))) (one_states updated t f h.states g.states h.made g.made) ∙ sym (g.leaves c leaf)
   | inr apart ↦ h.others c apart ∙ sym (g.others c apart)
 ])
 
@@ -85,7 +92,7 @@ some_and_none (Some s) h g = absurd (false≢true (sym g))
 module _ (updated : UpdateRule) (marked : MarkRule) (t : Spacetree) (f : States) where
   -- a step that is served overflows at no leaf
   pub served_or_over : (u : Spacetree) (g : States) (c : CellKey) → IsServedStep updated marked t f u g → Overflows updated t f c → ⊥
-  served_or_over u g c served over = some_and_none (new_state updated t f c) (served.step.updates c over.leaf) over.failed
+  served_or_over u g c served over = some_and_none (new_state updated t f c) (served.step.made.updates c over.leaf) over.failed
 
   -- and is not crowded
   pub served_or_crowded : (u : Spacetree) (g : States) (cells : ℕ) → IsServedStep updated marked t f u g → Crowds updated marked t f cells → ⊥

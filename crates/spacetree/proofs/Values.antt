@@ -1,5 +1,5 @@
 -- How many values the states have that a cell sees.
-use Rattle.std.proofs.Common.{zero, suc, ◌+◌, ◌<◌, arith, ◌≡◌, ℕ, Bool, true, false, ◌||◌, ◌==◌, cond, refl, ap, sym, ◌∙◌, Option, Some, None, IfSome, is_some, unwrap_or}
+use Rattle.std.proofs.Common.{zero, suc, ◌+◌, ◌-◌, ◌<◌, ◌≤◌, arith, ◌≡◌, ℕ, Bool, true, false, ◌||◌, ◌==◌, cond, refl, ap, sym, ◌∙◌, Option, Some, None, IfSome, is_some, unwrap_or}
 use Rattle.std.proofs.lemmas.Bool.{false≢true, or_parts}
 use Rattle.std.specs.FinMap as map
 use Rattle.peano_keys.specs.declared.dim.Dim.{Dim}
@@ -9,7 +9,8 @@ use Rattle.peano_keys.specs.declared.state.State.{State}
 use Rattle.peano_keys.specs.State.{count_of}
 use Rattle.peano_keys.specs.Cell.{IsCell, IsDigits, parent_of, centre_child, centre_digits}
 use Rattle.peano_keys.specs.Grid.{Spacetree, IsGrid, is_refined, has_cell}
-use Rattle.peano_keys.specs.Field.{States, state_at, centre_state, covering_state}
+use Rattle.peano_keys.specs.Field.{States, state_at, centre_state, covering_state, mean_under}
+use Rattle.cell_sums.proofs.Means.{count_of_like, value_refined, value_plain}
 use Rattle.solver_api.specs.Step.{IsLeafOf}
 use Rattle.spacetree.specs.Fields.{IsFieldOn}
 use Rattle.spacetree.proofs.Children.{child_cell, parent_cell, third_digit}
@@ -32,7 +33,7 @@ unrefined_at_end : (t : Spacetree) (c : CellKey) → IsGrid 12 t → c.level ≡
 unrefined_at_end t c grid e true h = absurd (omega (arith, grid.levels c h))
 unrefined_at_end t c grid e false h = h
 
--- the value of a cell of the grid
+-- the state of the centre leaf of a cell of the grid
 pub count_at_centre : (levels n : ℕ) (t : Spacetree) (f : States) (c : CellKey) → IsGrid 12 t → IsFieldOn n t f → IsCell t.dim c → has_cell t c ≡ true → c.level + levels ≡ 12 → count_of (centre_state levels t f c) ≡ n
 count_at_centre zero n t f c grid field cell there e =
     count_at_leaf n t f c field (leaf_from t c cell there (unrefined_at_end t c grid (omega arith) (is_refined t c) refl))
@@ -57,6 +58,16 @@ count_at_cover (suc levels) n t f c field cell apart e =
       | false ↦ λ away.
           count_at_cover levels n t f (parent_of c) field (parent_cell t.dim c cell (omega arith)) (or_parts (c.level == 0) (is_refined t (parent_of c)) away).1 (omega arith)
     ] refl
+
+deep_grid : (depth : ℕ) (t : Spacetree) → depth ≤ 12 → IsGrid depth t → IsGrid 12 t
+deep_grid depth t deep grid = record { cells = grid.cells; levels = λ c h. omega (arith, grid.levels c h, deep); parents = grid.parents }
+
+-- the value of a cell of the grid
+pub count_of_value : (depth parts : ℕ) (t : Spacetree) (f : States) (c : CellKey) → depth ≤ 12 → IsGrid depth t → IsFieldOn parts t f → IsCell t.dim c → has_cell t c ≡ true → count_of (mean_under depth t f c) ≡ parts
+count_of_value depth parts t f c deep grid field cell there = elim (is_refined t c) as (λ b. is_refined t c ≡ b → count_of (mean_under depth t f c) ≡ parts) [
+  | true ↦ λ h. ap count_of (value_refined depth t f c h) ∙ count_of_like (centre_state (12 - c.level) t f c) _ ∙ count_at_centre (12 - c.level) parts t f c (deep_grid depth t deep grid) field cell there (omega (arith, cell.level))
+  | false ↦ λ h. ap count_of (value_plain depth t f c h) ∙ count_at_leaf parts t f c field (leaf_from t c cell there h)
+] refl
 
 -- what is not in the grid is not refined
 pub away_unrefined : (t : Spacetree) (c : CellKey) → IsGrid 12 t → has_cell t c ≡ false → is_refined t c ≡ false

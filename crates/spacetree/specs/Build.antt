@@ -1,10 +1,10 @@
 -- What a grid is built from, how the build descends, and why a grid is not built.
-use Rattle.std.specs.Prelude.{◌≡◌, ℕ, zero, suc, ◌+◌, ◌*◌, ◌^◌, ◌<◌, ◌≤◌, min, max, Bool, true, ◌&&◌, nat_lt, All, Any, List, slice_index}
+use Rattle.std.specs.Prelude.{◌≡◌, ℕ, zero, suc, ◌^◌, ◌<◌, ◌≤◌, true, All, Any, List, slice_index}
 use Rattle.std.specs.FinSet as set
 use Rattle.peano_keys.specs.declared.dim.Dim.{Dim}
 use Rattle.peano_keys.specs.declared.dim.Dim.TheVariants.{Two, Three}
 use Rattle.peano_keys.specs.declared.cell.CellKey.{CellKey}
-use Rattle.peano_keys.specs.Cell.{at, parent_of}
+use Rattle.peano_keys.specs.Cell.{parent_of}
 use Rattle.peano_keys.specs.Grid.{Cells, Spacetree}
 use Rattle.spacetree.specs.declared.limits.TheConstants.{MOST_CELLS}
 use Rattle.spacetree.specs.declared.fault.BuildFault.{BuildFault}
@@ -74,10 +74,13 @@ IsUnder top c = (levels : ℕ) × (levels ≤ c.level) × (ancestor_of levels c 
 
 -- a set has each cell that is refined in the opening grid and is a given one or lies below it
 abbrev pub HasOpenedUnder : Shape → CellKey → Cells → Type 0
-HasOpenedUnder shape top s = (c : CellKey) → OpensRefined shape c → IsUnder top c → set.contains s c ≡ true
+HasOpenedUnder shape top s = (c : CellKey) → OpensRefined shape c → IsUnder top c
+    → set.contains s c ≡ true
 
 -- some zones stand for all of a shape below a cell: they refine no other cell than these, and below the cell the same
 pub record StandsFor (shape : Shape) (top : CellKey) (zones : List Zone) : Type 0 where
   pub valid : All (IsZone shape.dim shape.depth) zones
-  pub within : (c : CellKey) → Any (ZoneRefines shape.dim c) zones → Any (ZoneRefines shape.dim c) shape.zones
-  pub all : (c : CellKey) → IsUnder top c → Any (ZoneRefines shape.dim c) shape.zones → Any (ZoneRefines shape.dim c) zones
+  pub within : (c : CellKey) → Any (ZoneRefines shape.dim c) zones
+      → Any (ZoneRefines shape.dim c) shape.zones
+  pub all : (c : CellKey) → IsUnder top c → Any (ZoneRefines shape.dim c) shape.zones
+      → Any (ZoneRefines shape.dim c) zones

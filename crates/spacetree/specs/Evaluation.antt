@@ -12,7 +12,8 @@ use Rattle.spacetree.specs.declared.fault.EvalFault.TheVariants.{Overflow, Crowd
 use Rattle.spacetree.specs.Counts.{cells_of}
 
 -- a step that is not refused: the grid that it leads to has at most 200,000 cells
-pub record IsServedStep (updated : UpdateRule) (marked : MarkRule) (old : Spacetree) (before : States) (new : Spacetree) (after : States) : Type 0 where
+pub record IsServedStep (updated : UpdateRule) (marked : MarkRule) (old : Spacetree)
+    (before : States) (new : Spacetree) (after : States) : Type 0 where
   pub step : IsStep updated marked old before new after
   pub room : cells_of new ≤ MOST_CELLS
 
@@ -22,32 +23,38 @@ pub record IsCrowded (old : Spacetree) (marks : CellKey → Mark) (cells : ℕ) 
   pub crowded : MOST_CELLS < cells
 
 -- a step is refused because the next grid has so many cells: no leaf of the old one overflows
-pub record Crowds (updated : UpdateRule) (marked : MarkRule) (t : Spacetree) (f : States) (cells : ℕ) : Type 0 where
+pub record Crowds (updated : UpdateRule) (marked : MarkRule) (t : Spacetree) (f : States)
+    (cells : ℕ) : Type 0 where
   pub updates : (c : CellKey) → IsLeafOf t c → IsSome (new_state updated t f c)
   pub grid : IsCrowded t (marks_of marked t f) cells
 
 -- so many steps, none of them refused, lead from a grid and its field to others
 abbrev pub Evaluates : UpdateRule → MarkRule → Spacetree → States → ℕ → Spacetree → States → Type 0
 Evaluates updated marked t f zero t' f' = (t' ≡ t) × (f' ≡ f)
-Evaluates updated marked t f (suc n) t' f' = (u : Spacetree) × (g : States) × Evaluates updated marked t f n u g × IsServedStep updated marked u g t' f'
+Evaluates updated marked t f (suc n) t' f' = (u : Spacetree) × (g : States)
+    × Evaluates updated marked t f n u g × IsServedStep updated marked u g t' f'
 
 -- the evaluation overflows in a step, at a leaf: the steps before it lead to a grid and a field whose least failing leaf that is
 abbrev pub OverflowsIn : UpdateRule → MarkRule → Spacetree → States → ℕ → CellKey → Type 0
 OverflowsIn updated marked t f zero c = ⊥
-OverflowsIn updated marked t f (suc n) c = (u : Spacetree) × (g : States) × Evaluates updated marked t f n u g × Overflows updated u g c
+OverflowsIn updated marked t f (suc n) c = (u : Spacetree) × (g : States)
+    × Evaluates updated marked t f n u g × Overflows updated u g c
 
 -- the evaluation is crowded in a step, by so many cells: the steps before it lead to a grid and a field whose next grid is refused
 abbrev pub CrowdsIn : UpdateRule → MarkRule → Spacetree → States → ℕ → ℕ → Type 0
 CrowdsIn updated marked t f zero cells = ⊥
-CrowdsIn updated marked t f (suc n) cells = (u : Spacetree) × (g : States) × Evaluates updated marked t f n u g × Crowds updated marked u g cells
+CrowdsIn updated marked t f (suc n) cells = (u : Spacetree) × (g : States)
+    × Evaluates updated marked t f n u g × Crowds updated marked u g cells
 
 -- none of so many steps overflows
 abbrev pub NeverOverflows : UpdateRule → MarkRule → Spacetree → States → ℕ → Type 0
-NeverOverflows updated marked t f steps = (s : ℕ) (c : CellKey) → s ≤ steps → ¬ OverflowsIn updated marked t f s c
+NeverOverflows updated marked t f steps = (s : ℕ) (c : CellKey) → s ≤ steps
+    → ¬ OverflowsIn updated marked t f s c
 
 -- none of so many steps is crowded
 abbrev pub NeverCrowds : UpdateRule → MarkRule → Spacetree → States → ℕ → Type 0
-NeverCrowds updated marked t f steps = (s cells : ℕ) → s ≤ steps → ¬ CrowdsIn updated marked t f s cells
+NeverCrowds updated marked t f steps = (s cells : ℕ) → s ≤ steps
+    → ¬ CrowdsIn updated marked t f s cells
 
 -- what a step that was refused says: its number and the leaf at which it overflows, or its number and the size of the next grid, or that memory was wanting
 abbrev pub StepFails : UpdateRule → MarkRule → Spacetree → States → ℕ → EvalFault → Type 0
@@ -57,6 +64,8 @@ StepFails updated marked t f step NoMemory = Unit {0}
 
 -- what an evaluation of so many steps that ended early says: the step and the leaf in which it overflows, or the step and the size of the grid by which it is crowded, or that memory was wanting
 abbrev pub EndsIn : UpdateRule → MarkRule → Spacetree → States → ℕ → EvalFault → Type 0
-EndsIn updated marked t f steps (Overflow step c) = (step ≤ steps) × OverflowsIn updated marked t f step c
-EndsIn updated marked t f steps (Crowded step cells) = (step ≤ steps) × CrowdsIn updated marked t f step cells
+EndsIn updated marked t f steps (Overflow step c) = (step ≤ steps)
+    × OverflowsIn updated marked t f step c
+EndsIn updated marked t f steps (Crowded step cells) = (step ≤ steps)
+    × CrowdsIn updated marked t f step cells
 EndsIn updated marked t f steps NoMemory = Unit {0}

@@ -17,6 +17,11 @@ row_of e = record { key = e.0; value = e.1 }
 abbrev pub rows_of : States → List Row
 rows_of f = map row_of (fin.entries f)
 
+-- a field is the one that has some keys and states, in this order
+abbrev pub IsMadeAgain : List CellKey → List State → States → Type 0
+IsMadeAgain keys states field = (f : States) → keys ≡ map (λ e. e.0) (fin.entries f)
+    → states ≡ map (λ e. e.1) (fin.entries f) → field ≡ f
+
 -- a cell is a key of a field exactly where it is a leaf of a grid
 abbrev pub HasLeaf : Spacetree → States → CellKey → Type 0
 HasLeaf t f c = IsSome (fin.get f c) ↔ IsLeafOf t c

@@ -3,14 +3,17 @@ pub use Rattle.peano_keys.specs.Cell
 pub use Rattle.peano_keys.specs.State
 pub use Rattle.peano_keys.specs.Grid
 pub use Rattle.peano_keys.specs.Field
+pub use Rattle.cell_sums.specs.Bounds
 pub use Rattle.solver_api.specs.Parts
 pub use Rattle.solver_api.specs.Step
 pub use Rattle.volume_solver.specs.Ranges
 pub use Rattle.volume_solver.specs.Kernel
 pub mod Leaves
+pub mod LeafLists
 pub mod Counts
 pub mod Digits
 pub mod Fields
+pub mod Means
 pub mod Opening
 pub mod Evaluation
 pub mod Build

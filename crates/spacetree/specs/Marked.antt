@@ -8,7 +8,7 @@ use Rattle.peano_keys.specs.declared.side.Mark.{Mark}
 use Rattle.peano_keys.specs.declared.side.Mark.TheVariants.{Refine, Coarsen}
 use Rattle.peano_keys.specs.Cell.{IsDigits, child_of}
 use Rattle.peano_keys.specs.Grid.{Cells, Spacetree}
-use Rattle.peano_keys.specs.Field.{States, state_at}
+use Rattle.peano_keys.specs.Field.{States, value_of}
 use Rattle.solver_api.specs.Step.{UpdateRule, IsLeafOf, new_state, source_of}
 use Rattle.spacetree.specs.declared.fault.EvalFault.{EvalFault}
 use Rattle.spacetree.specs.declared.fault.EvalFault.TheVariants.{Overflow, Crowded, NoMemory}
@@ -17,7 +17,8 @@ use Rattle.spacetree.specs.Evaluation.{IsCrowded}
 
 -- a field has the new state of each leaf of a grid
 abbrev pub HasNewStates : UpdateRule → Spacetree → States → States → Type 0
-HasNewStates updated t f new = (c : CellKey) → IsLeafOf t c → map.get new c ≡ new_state updated t f c
+HasNewStates updated t f new = (c : CellKey) → IsLeafOf t c
+    → map.get new c ≡ new_state updated t f c
 
 -- a set has the leaves of a grid with one mark, and no other cell
 abbrev pub HasMarked : Spacetree → (CellKey → Mark) → Mark → Cells → Type 0
@@ -48,7 +49,8 @@ NextFails t marks step (Overflow s c) = ⊥
 NextFails t marks step (Crowded s cells) = (s ≡ step) × IsCrowded t marks cells
 NextFails t marks step NoMemory = Unit {0}
 
--- each leaf of the next grid has the state of its source, and no other cell has one
+-- each leaf of the next grid has the value of its source in the field of new states, and no other cell has one
 pub record Inherits (old new : Spacetree) (states after : States) : Type 0 where
   pub keys : HasLeaves new after
-  pub values : (c : CellKey) → IsLeafOf new c → map.get after c ≡ Some (state_at states (source_of old c))
+  pub values : (c : CellKey) → IsLeafOf new c
+      → map.get after c ≡ Some (value_of old states (source_of old c))

@@ -17,7 +17,8 @@ use Rattle.spacetree.specs.declared.shape.Fill.{Fill}
 
 -- whether the inside of a cell of level `l` at `x` meets, on one axis, the interval of cells `from` to `to` of level `k`
 abbrev pub overlaps : ℕ → ℕ → ℕ → ℕ → ℕ → Bool
-overlaps l x k from to = nat_lt (max (x * 3 ^ k) (from * 3 ^ l)) (min ((x + 1) * 3 ^ k) (to * 3 ^ l))
+overlaps l x k from to =
+    nat_lt (max (x * 3 ^ k) (from * 3 ^ l)) (min ((x + 1) * 3 ^ k) (to * 3 ^ l))
 
 -- so on axis `i` of a cell and a zone
 abbrev pub overlaps_on : ℕ → Zone → CellKey → Bool
@@ -48,7 +49,8 @@ pub record Opens (shape : Shape) (t : Spacetree) : Type 0 where
 
 -- the centre of a cell of level `l` at `x` lies, on one axis, between the cells `from` and `to` of level `k`
 abbrev pub is_between : ℕ → ℕ → ℕ → ℕ → ℕ → Bool
-is_between l x k from to = nat_lt (from * 2 * 3 ^ l) ((2 * x + 1) * 3 ^ k) && nat_lt ((2 * x + 1) * 3 ^ k) (to * 2 * 3 ^ l)
+is_between l x k from to = nat_lt (from * 2 * 3 ^ l) ((2 * x + 1) * 3 ^ k)
+    && nat_lt ((2 * x + 1) * 3 ^ k) (to * 2 * 3 ^ l)
 
 -- so on axis 2, which a plane has none of
 abbrev pub is_between_third : Dim → ℕ → ℕ → ℕ → ℕ → ℕ → Bool
@@ -57,7 +59,9 @@ is_between_third Three l x k from to = is_between l x k from to
 
 -- whether a leaf lies in the box of a fill: its centre is in the box
 abbrev pub lies_in : Dim → CellKey → Fill → Bool
-lies_in dim c b = is_between c.level (at c 0) b.level (slice_index b.from 0) (slice_index b.to 0) && is_between c.level (at c 1) b.level (slice_index b.from 1) (slice_index b.to 1) && is_between_third dim c.level (at c 2) b.level (slice_index b.from 2) (slice_index b.to 2)
+lies_in dim c b = is_between c.level (at c 0) b.level (slice_index b.from 0) (slice_index b.to 0)
+    && is_between c.level (at c 1) b.level (slice_index b.from 1) (slice_index b.to 1)
+    && is_between_third dim c.level (at c 2) b.level (slice_index b.from 2) (slice_index b.to 2)
 
 -- the value of the last of some fills, and another state where there is none
 abbrev pub last_value : State → List Fill → State

@@ -8,9 +8,9 @@ ghost use Rattle.spacetree.specs.Evaluation.{Evaluates, EndsIn, IsServedStep, Ne
 use crate::fault::EvalFault;
 use crate::field::Field;
 use crate::grid::Grid;
+use crate::means::state;
 use crate::next_field::next_field;
 use crate::next_grid::next_grid;
-use crate::side::state;
 use crate::update::update_leaves;
 use peano_keys::CellKey;
 use solver_api::Solver;
@@ -30,16 +30,21 @@ pub fn advance<S: Solver>(
 ) -> Result<(Grid, Field), EvalFault>
     requires deepest { S.deepest_of solver.now ≤ 12 }
     requires field { IsFieldOn (S.parts_of solver.now) grid field.now }
-    ensures ok { IfOk result (λ after. IsServedStep (S.updated solver.now) (S.marked solver.now) grid field.now after.0 after.1) }
+    ensures ok { IfOk result
+        (λ after. IsServedStep (S.updated solver.now)
+        (S.marked solver.now) grid field.now after.0 after.1) }
     ensures field { IfOk result (λ after. IsFieldOn (S.parts_of solver.now) after.0 after.1) }
     ensures served { IfOk result (λ after. IsGrid 12 after.0) }
 
     // The grid goes no deeper than it was and the solver refines.
-    ensures grid { IfOk result (λ after. (depth : ℕ) → S.deepest_of solver.now ≤ depth → IsGrid depth grid → IsGrid depth after.0) }
+    ensures grid { IfOk result
+        (λ after. (depth : ℕ) → S.deepest_of solver.now ≤ depth → IsGrid depth grid
+        → IsGrid depth after.0) }
 
     // Without a criterion it stays.
     ensures stays { S.adapting solver.now ≡ false → IfOk result (λ after. after.0 ≡ grid) }
-    ensures err { IfErr result (StepFails (S.updated solver.now) (S.marked solver.now) grid field.now step) }
+    ensures err { IfErr result
+        (StepFails (S.updated solver.now) (S.marked solver.now) grid field.now step) }
 {
     let leaves = grid.found_leaves(alloc)?;
     let update = update_leaves(alloc, &grid, field, solver, leaves.as_slice(), step)?;
@@ -83,20 +88,27 @@ pub fn evaluate<S: Solver>(
 ) -> Result<(Grid, Field), EvalFault>
     requires deepest { S.deepest_of solver.now ≤ 12 }
     requires field { IsFieldOn (S.parts_of solver.now) grid.now field.now }
-    ensures ok { IfOk result (λ after. Evaluates (S.updated solver.now) (S.marked solver.now) grid.now field.now steps after.0 after.1) }
+    ensures ok { IfOk result
+        (λ after. Evaluates (S.updated solver.now)
+        (S.marked solver.now) grid.now field.now steps after.0 after.1) }
     ensures field { IfOk result (λ after. IsFieldOn (S.parts_of solver.now) after.0 after.1) }
     ensures served { IfOk result (λ after. IsGrid 12 after.0) }
 
     // The grid never goes deeper than it was and the solver refines.
-    ensures grid { IfOk result (λ after. (depth : ℕ) → S.deepest_of solver.now ≤ depth → IsGrid depth grid.now → IsGrid depth after.0) }
+    ensures grid { IfOk result
+        (λ after. (depth : ℕ) → S.deepest_of solver.now ≤ depth → IsGrid depth grid.now
+        → IsGrid depth after.0) }
 
     // Without a criterion it stays.
     ensures stays { S.adapting solver.now ≡ false → IfOk result (λ after. after.0 ≡ grid.now) }
-    ensures err { IfErr result (EndsIn (S.updated solver.now) (S.marked solver.now) grid.now field.now steps) }
+    ensures err { IfErr result
+        (EndsIn (S.updated solver.now) (S.marked solver.now) grid.now field.now steps) }
 
     // Where it goes through, no step overflows at any leaf, and none is crowded.
-    ensures through { OnOk result (NeverOverflows (S.updated solver.now) (S.marked solver.now) grid.now field.now steps) }
-    ensures room { OnOk result (NeverCrowds (S.updated solver.now) (S.marked solver.now) grid.now field.now steps) }
+    ensures through { OnOk result
+        (NeverOverflows (S.updated solver.now) (S.marked solver.now) grid.now field.now steps) }
+    ensures room { OnOk result
+        (NeverCrowds (S.updated solver.now) (S.marked solver.now) grid.now field.now steps) }
 {
     let leaves = grid.found_leaves(alloc)?;
     let mut states = copied(alloc, grid, field, leaves.as_slice(), solver.parts())?;

@@ -1,4 +1,4 @@
-//! Why a grid was not built, and why an evaluation ended early.
+//! Why a grid was not built or a list is not that of leaves, and why an evaluation ended early.
 use peano_keys::CellKey;
 use std::alloc::AllocError;
 use thiserror::Error;
@@ -22,6 +22,28 @@ impl From<AllocError> for BuildFault {
 
     fn from(_e: AllocError) -> BuildFault {
         BuildFault::NoMemory
+    }
+}
+
+/// Why a list of leaves makes no grid.
+#[derive(Clone, Copy, Debug, PartialEq, Eq, Error)]
+pub enum LeavesFault {
+    /// The list is not, in key order, that of the leaves of a grid of the depth with at most 200,000 cells.
+    #[error("not the leaves of a grid")]
+    NotLeaves,
+    #[error("out of memory")]
+    NoMemory,
+}
+
+impl From<AllocError> for LeavesFault {
+    ghost use Rattle.std.specs.Prelude.{◌≡◌};
+    ghost use Rattle.spacetree.specs.declared.fault.LeavesFault.{LeavesFault};
+    ghost use Rattle.spacetree.specs.declared.fault.LeavesFault.TheVariants.{NoMemory};
+
+    ghost from_gives = { λ _ e. e ≡ NoMemory };
+
+    fn from(_e: AllocError) -> LeavesFault {
+        LeavesFault::NoMemory
     }
 }
 

@@ -1,12 +1,18 @@
 //! Fields: maps from leaves to states.
-ghost use Rattle.std.specs.Prelude.{◌≡◌, ◌≤◌, map, OnOk, OnErr, IfOk, All};
+ghost use Rattle.std.specs.Prelude.{◌≡◌, ◌≤◌, ℕ, length, map, OnOk, OnErr, IfOk, IfSome, SomeIff, All};
 ghost use Rattle.std.specs.FinMap as fin;
+ghost use Rattle.std.specs.List.{zip};
 ghost use Rattle.std.specs.List.Sorted.{IsStrictlySortedBy};
 ghost use Rattle.peano_keys.specs.Cell.{key_cmp};
-ghost use Rattle.spacetree.specs.Fields.{rows_of, row_of, IsFieldOn};
+ghost use Rattle.peano_keys.specs.State.{count_of};
+ghost use Rattle.peano_keys.specs.Grid.{IsGrid};
+ghost use Rattle.peano_keys.specs.Field.{value_of};
+ghost use Rattle.spacetree.specs.Leaves.{IsCellOf};
+ghost use Rattle.spacetree.specs.Fields.{rows_of, row_of, IsFieldOn, IsMadeAgain};
 ghost use Rattle.spacetree.specs.Opening.{OpensField, IsFill};
 
 use crate::grid::Grid;
+use crate::means::value;
 use crate::opening::opening_state;
 use crate::row::Row;
 use crate::shape::Fill;
@@ -80,11 +86,44 @@ impl Field {
         Ok(field)
     }
 
+    /// The field that gives each of some leaves, in key order, the state at its place in the list of states.
+    pub fn of_states(alloc: Global, keys: &[CellKey], states: &[State]) -> Result<Field, AllocError>
+        requires lengths { length keys.now ≡ length states.now }
+        requires order { IsStrictlySortedBy key_cmp keys.now }
+        ensures entries { IfOk result (λ field. fin.entries field ≡ zip keys.now states.now) }
+
+        // So a field is made again from its keys and its states.
+        ensures same { IfOk result (λ field. IsMadeAgain keys.now states.now field) }
+    {
+        let mut field = Field::empty(alloc);
+        for (key, state) in keys.iter().zip(states) {
+            field.set(*key, *state)?;
+        }
+        Ok(field)
+    }
+
     /// The state of a leaf, none where the key is no leaf of the field.
     pub fn get(&self, key: &CellKey) -> Option<State>
         ensures { result ≡ fin.get self.now key.now }
     {
         self.states.get(key).copied()
+    }
+
+    /// The value of a cell of the grid that the field is on: the state of a leaf, and of a refined cell the mean of each
+    /// component over the leaves below it, rounded down. None exactly where the key is no cell of the grid.
+    pub fn value_of(&self, grid: &Grid, key: &CellKey) -> Option<State>
+        requires { (parts : ℕ) × IsFieldOn parts grid.now self.now }
+        ensures value { SomeIff result (IsCellOf grid.now key.now)
+            (value_of grid.now self.now key.now) }
+
+        // It has as many values as the states of the field.
+        ensures parts { (parts : ℕ) → IsGrid 12 grid.now → IsFieldOn parts grid.now self.now
+            → IfSome result (λ s. count_of s ≡ parts) }
+    {
+        if !grid.is_cell(key) {
+            return None;
+        }
+        Some(value(grid, self, *key))
     }
 
     /// How many leaves there are.

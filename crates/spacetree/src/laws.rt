@@ -1,6 +1,6 @@
 //! Laws of grids and fields: that there are opening ones and next ones, how many cells they have, and what sides and
 //! stored vertices are.
-ghost use Rattle.spacetree.specs.Laws.{EachShapeOpens, OpeningIsGrid, FillsOpen, NextGridExists, StepExists, EachStepLeadsOn, CellsAreCounted, OneCountOfCells, LeavesAreCounted, LeavesAreListed, RowsAreLeaves, StoredIsCorner, CoarseSideIsOfLeaf, MergeTakesValue};
+ghost use Rattle.spacetree.specs.Laws.{EachShapeOpens, OpeningIsGrid, FillsOpen, NextGridExists, StepExists, EachStepLeadsOn, CellsAreCounted, OneCountOfCells, LeavesAreCounted, LeavesAreListed, OneGridOfLeaves, RowsAreLeaves, StoredIsCorner, CoarseSideIsOfLeaf, MergeTakesValue};
 
 /// Each shape opens a grid.
 pub fn each_shape_opens()
@@ -52,6 +52,11 @@ pub fn leaves_are_listed()
     ensures { LeavesAreListed }
 {}
 
+/// A grid is told by its leaves: no other one of its dimension has the same.
+pub fn one_grid_of_leaves()
+    ensures { OneGridOfLeaves }
+{}
+
 /// A field has as many rows as its grid has leaves.
 pub fn rows_are_leaves()
     ensures { RowsAreLeaves }
@@ -67,7 +72,7 @@ pub fn coarse_side_is_of_leaf()
     ensures { CoarseSideIsOfLeaf }
 {}
 
-/// A cell that merges takes its value: that of its centre child.
+/// A cell that merges takes its value in the field of new states, its mean.
 pub fn merge_takes_value()
     ensures { MergeTakesValue }
 {}

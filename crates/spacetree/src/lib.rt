@@ -12,8 +12,14 @@ mod fault;
 mod field;
 mod grid;
 pub mod laws;
+mod leaf_list;
+#[cfg(test)]
+mod leaf_tests;
 mod limits;
 mod listed;
+mod means;
+#[cfg(test)]
+mod means_tests;
 mod next_field;
 mod next_grid;
 mod opening;
@@ -27,7 +33,7 @@ mod tests;
 mod update;
 
 pub use evaluation::{advance, evaluate};
-pub use fault::{BuildFault, EvalFault};
+pub use fault::{BuildFault, EvalFault, LeavesFault};
 pub use field::Field;
 pub use grid::Grid;
 pub use limits::MOST_CELLS;

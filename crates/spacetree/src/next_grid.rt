@@ -37,7 +37,8 @@ fn has_children(dim: Dim, cells: &CellSet, key: CellKey) -> bool
 fn keep(refined: &mut CellSet, dim: Dim, coarsen: &CellSet, key: CellKey) -> Result<(), AllocError>
     requires cell { IsCell dim key }
     requires room { key.level < 12 }
-    ensures { OnOk result (IsAddedWhere (HasChildren dim coarsen.now key → ⊥) key refined.old refined.new) }
+    ensures { OnOk result
+        (IsAddedWhere (HasChildren dim coarsen.now key → ⊥) key refined.old refined.new) }
 {
     if has_children(dim, coarsen, key) {
         return Ok(());
@@ -53,8 +54,11 @@ fn next_refined(
     coarsen: &CellSet,
 ) -> Result<CellSet, AllocError>
     requires { IsGrid 12 grid.now }
-    ensures next { IfOk result (λ cells. (marks : CellKey → Mark) → AreMarked grid.now marks refine.now coarsen.now → IsNextGrid grid.now marks (record { dim = grid.now.dim; refined = cells })) }
-    ensures count { IfOk result (λ cells. set.len cells ≤ set.len refine.now + set.len grid.now.refined) }
+    ensures next { IfOk result
+        (λ cells. (marks : CellKey → Mark) → AreMarked grid.now marks refine.now coarsen.now
+        → IsNextGrid grid.now marks (record { dim = grid.now.dim; refined = cells })) }
+    ensures count { IfOk result
+        (λ cells. set.len cells ≤ set.len refine.now + set.len grid.now.refined) }
 {
     let dim = grid.dim();
     let parents = grid.refined_cells(alloc)?;
@@ -76,9 +80,15 @@ pub(crate) fn next_grid(
     requires room { cells_of grid.now ≤ MOST_CELLS }
     requires count { set.len update.now.refine ≤ 2 ^ 59 }
     requires marks { AreServedMarks grid.now update.now.refine update.now.coarsen }
-    ensures ok { IfOk result (λ next. (marks : CellKey → Mark) → AreMarked grid.now marks update.now.refine update.now.coarsen → IsNextGrid grid.now marks next) }
+    ensures ok { IfOk result
+        (λ next. (marks : CellKey → Mark)
+        → AreMarked grid.now marks update.now.refine update.now.coarsen
+        → IsNextGrid grid.now marks next) }
     ensures room { IfOk result (λ next. cells_of next ≤ MOST_CELLS) }
-    ensures err { IfErr result (λ fault. (marks : CellKey → Mark) → AreMarked grid.now marks update.now.refine update.now.coarsen → NextFails grid.now marks step fault) }
+    ensures err { IfErr result
+        (λ fault. (marks : CellKey → Mark)
+        → AreMarked grid.now marks update.now.refine update.now.coarsen
+        → NextFails grid.now marks step fault) }
 {
     let refined = next_refined(alloc, grid, &update.refine, &update.coarsen)?;
     let cells = cells_with(grid.dim(), &refined);

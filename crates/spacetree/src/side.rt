@@ -1,37 +1,16 @@
-//! The value of a cell, and what a cell sees across its faces.
-ghost use Rattle.std.specs.Prelude.{◌≡◌, ◌<◌, ◌≤◌, ◌-◌, ℕ};
+//! What a cell sees across its faces.
+ghost use Rattle.std.specs.Prelude.{◌≡◌, ◌<◌, ◌≤◌, ℕ};
 ghost use Rattle.peano_keys.specs.Dim.{axes};
 ghost use Rattle.peano_keys.specs.Cell.{IsCell};
 ghost use Rattle.peano_keys.specs.Grid.{IsGrid};
-ghost use Rattle.peano_keys.specs.Field.{covering_state, side_of, sides_of, sides_on, state_at, value_of};
+ghost use Rattle.peano_keys.specs.Field.{covering_state, side_of, sides_of, sides_on};
 ghost use Rattle.solver_api.specs.Parts.{SideHas, SidesHave};
 ghost use Rattle.spacetree.specs.Fields.{IsFieldOn};
 
 use crate::field::Field;
 use crate::grid::Grid;
-use peano_keys::{CellKey, Dim, Face, Side, Sides, State, child, neighbour, parent};
-
-// The state of a leaf.
-pub(crate) fn state(field: &Field, key: &CellKey) -> State
-    ensures { result ≡ state_at field.now key.now }
-{
-    field.get(key).unwrap_or(State::Single(0))
-}
-
-// The value of a cell: its state where it is a leaf, else the value of its centre child.
-fn value(grid: &Grid, field: &Field, key: CellKey) -> State
-    requires { IsCell grid.now.dim key }
-    ensures { result ≡ value_of grid.now field.now key }
-{
-    if key.level == 12 || !grid.is_refined(&key) {
-        return state(field, &key);
-    }
-    let third = match grid.dim() {
-        Dim::Two => 0,
-        Dim::Three => 1,
-    };
-    value(grid, field, child(key, [1, 1, third]))
-}
+use crate::means::{state, value};
+use peano_keys::{CellKey, Dim, Face, Side, Sides, State, neighbour, parent};
 
 // The state of the nearest cell of the grid among a cell and its ancestors.
 fn covering(grid: &Grid, field: &Field, key: CellKey) -> State
@@ -49,7 +28,8 @@ fn side(grid: &Grid, field: &Field, key: CellKey, face: Face) -> Side
     requires cell { IsCell grid.now.dim key }
     requires axis { face.axis < axes grid.now.dim }
     ensures value { result ≡ side_of grid.now field.now key face }
-    ensures parts { (n : ℕ) → IsGrid 12 grid.now → IsFieldOn n grid.now field.now → SideHas n result }
+    ensures parts { (n : ℕ) → IsGrid 12 grid.now → IsFieldOn n grid.now field.now
+        → SideHas n result }
 {
     match neighbour(grid.dim(), key, face) {
         None => Side::Edge,
@@ -67,7 +47,8 @@ fn side(grid: &Grid, field: &Field, key: CellKey, face: Face) -> Side
 fn sides_on(grid: &Grid, field: &Field, key: CellKey, high: bool) -> [Side; 3]
     requires { IsCell grid.now.dim key }
     ensures value { result ≡ sides_on grid.now field.now key high }
-    ensures parts { (n : ℕ) → IsGrid 12 grid.now → IsFieldOn n grid.now field.now → SidesHave n result }
+    ensures parts { (n : ℕ) → IsGrid 12 grid.now → IsFieldOn n grid.now field.now
+        → SidesHave n result }
 {
     let first = side(grid, field, key, Face { axis: 0, high });
     let second = side(grid, field, key, Face { axis: 1, high });
@@ -84,8 +65,10 @@ pub fn sides(grid: &Grid, field: &Field, key: CellKey) -> Sides
     ensures value { result ≡ sides_of grid.now field.now key }
 
     // On a field whose states have `n` values, those across the faces have as many.
-    ensures low { (n : ℕ) → IsGrid 12 grid.now → IsFieldOn n grid.now field.now → SidesHave n result.low }
-    ensures high { (n : ℕ) → IsGrid 12 grid.now → IsFieldOn n grid.now field.now → SidesHave n result.high }
+    ensures low { (n : ℕ) → IsGrid 12 grid.now → IsFieldOn n grid.now field.now
+        → SidesHave n result.low }
+    ensures high { (n : ℕ) → IsGrid 12 grid.now → IsFieldOn n grid.now field.now
+        → SidesHave n result.high }
 {
     Sides {
         low: sides_on(grid, field, key, false),

@@ -15,7 +15,8 @@ use crate::cells::CellSet;
 use crate::fault::EvalFault;
 use crate::field::Field;
 use crate::grid::Grid;
-use crate::side::{sides, state};
+use crate::means::state;
+use crate::side::sides;
 use peano_keys::{CellKey, Mark, State};
 use solver_api::Solver;
 use std::alloc::{AllocError, Global};
@@ -86,8 +87,10 @@ impl Update {
     // Adds a leaf with its new state and its mark.
     fn add(&mut self, leaf: CellKey, state: State, mark: Mark) -> Result<(), AllocError>
         ensures states { OnOk result (self.new.states ≡ fin.insert self.old.states leaf state) }
-        ensures refine { OnOk result (IsAddedWhere (mark ≡ Refine) leaf self.old.refine self.new.refine) }
-        ensures coarsen { OnOk result (IsAddedWhere (mark ≡ Coarsen) leaf self.old.coarsen self.new.coarsen) }
+        ensures refine { OnOk result
+            (IsAddedWhere (mark ≡ Refine) leaf self.old.refine self.new.refine) }
+        ensures coarsen { OnOk result
+            (IsAddedWhere (mark ≡ Coarsen) leaf self.old.coarsen self.new.coarsen) }
     {
         self.states.set(leaf, state)?;
         note(&mut self.refine, leaf, mark, Mark::Refine)?;
@@ -107,11 +110,16 @@ pub(crate) fn update_leaves<S: Solver>(
     requires grid { IsGrid 12 grid.now }
     requires field { IsFieldOn (S.parts_of solver.now) grid.now field.now }
     requires leaves { ListsLeaves grid.now leaves.now }
-    ensures states { IfOk result (λ update. HasNewStates (S.updated solver.now) grid.now field.now update.states) }
-    ensures field { IfOk result (λ update. IsFieldOn (S.parts_of solver.now) grid.now update.states) }
-    ensures marks { IfOk result (λ update. AreMarked grid.now (marks_of (S.marked solver.now) grid.now field.now) update.refine update.coarsen) }
+    ensures states { IfOk result
+        (λ update. HasNewStates (S.updated solver.now) grid.now field.now update.states) }
+    ensures field { IfOk result
+        (λ update. IsFieldOn (S.parts_of solver.now) grid.now update.states) }
+    ensures marks { IfOk result
+        (λ update. AreMarked grid.now
+        (marks_of (S.marked solver.now) grid.now field.now) update.refine update.coarsen) }
     ensures count { IfOk result (λ update. set.len update.refine ≤ length leaves.now) }
-    ensures err { IfErr result (StepFails (S.updated solver.now) (S.marked solver.now) grid.now field.now step) }
+    ensures err { IfErr result
+        (StepFails (S.updated solver.now) (S.marked solver.now) grid.now field.now step) }
 {
     let mut update = Update::empty(alloc);
     for leaf in leaves {

@@ -14,13 +14,17 @@ pub record TellsApart (A : Type 0) (same : A → A → Bool) : Type 0 where
   pub exact : (x y : A) → same x y ≡ true → x ≡ y
 
 -- each item names the cell that receives it, and no cell has an item twice for one neighbour
-pub record IsNamed (A : Type 0) (same : A → A → Bool) (splits_of : A → ℕ) (receiver_of : A → Box) (items : ℕ → Box → Axis → Side → List A) : Type 0 where
-  pub level : (m : ℕ) (b : Box) (i : Axis) (h : Side) (x : A) → IsIn x (items m b i h) → splits_of x ≡ m
-  pub receiver : (m : ℕ) (b : Box) (i : Axis) (h : Side) (x : A) → IsIn x (items m b i h) → receiver_of x ≡ beyond i h b
+pub record IsNamed (A : Type 0) (same : A → A → Bool) (splits_of : A → ℕ) (receiver_of : A → Box)
+    (items : ℕ → Box → Axis → Side → List A) : Type 0 where
+  pub level : (m : ℕ) (b : Box) (i : Axis) (h : Side) (x : A) → IsIn x (items m b i h)
+      → splits_of x ≡ m
+  pub receiver : (m : ℕ) (b : Box) (i : Axis) (h : Side) (x : A) → IsIn x (items m b i h)
+      → receiver_of x ≡ beyond i h b
   pub distinct : (m : ℕ) (b : Box) (i : Axis) (h : Side) → AreDistinct same (items m b i h)
 
 -- after some events each lane holds exactly what was given on it and not taken, the newest first
 pub record HoldsTheRest (A : Type 0) (same : A → A → Bool) (done : List (Event A)) : Type 0 where
   pub now : ℕ → List A
   pub reached : run_all same (λ k. []) done ≡ Some now
-  pub rest : (k : ℕ) → now k ≡ reverse (without same (popped (on_lane k done)) (pushed (on_lane k done)))
+  pub rest : (k : ℕ)
+      → now k ≡ reverse (without same (popped (on_lane k done)) (pushed (on_lane k done)))

@@ -27,19 +27,24 @@ centre_refined m b = if m == 4 then true else ((m == 2) && same_box b (at 1 1))
 
 -- the vertices stored in a grid of the plane
 abbrev pub stored_in_plane : ℕ → (ℕ → Box → Bool) → ℕ → Box → Bool
-stored_in_plane splits refined m v = (v.x2 == 0) && is_stored (extent (axis_in 2) (splits - m) m) (cells_of (axis_in 2) (cell_in 2) splits refined m) v
+stored_in_plane splits refined m v = (v.x2 == 0)
+    && is_stored (extent (axis_in 2) (splits - m) m)
+    (cells_of (axis_in 2) (cell_in 2) splits refined m) v
 
 -- and in space
 abbrev pub stored_in_space : ℕ → (ℕ → Box → Bool) → ℕ → Box → Bool
-stored_in_space splits refined m v = is_stored (extent (axis_in 3) (splits - m) m) (cells_of (axis_in 3) (cell_in 3) splits refined m) v
+stored_in_space splits refined m v = is_stored (extent (axis_in 3) (splits - m) m)
+    (cells_of (axis_in 3) (cell_in 3) splits refined m) v
 
 -- what the lanes get in the plane
 abbrev pub plane_events : Direction → ℕ → (ℕ → Box → Bool) → List (Event BoxPassing)
-plane_events dir splits refined = lane_events dir (axis_in 2) (cell_in 2) splits (cells_of (axis_in 2) (cell_in 2) splits refined) refined (stored_in_plane splits refined)
+plane_events dir splits refined = lane_events dir (axis_in 2) (cell_in 2) splits
+    (cells_of (axis_in 2) (cell_in 2) splits refined) refined (stored_in_plane splits refined)
 
 -- and in space
 abbrev pub space_events : Direction → ℕ → (ℕ → Box → Bool) → List (Event BoxPassing)
-space_events dir splits refined = lane_events dir (axis_in 3) (cell_in 3) splits (cells_of (axis_in 3) (cell_in 3) splits refined) refined (stored_in_space splits refined)
+space_events dir splits refined = lane_events dir (axis_in 3) (cell_in 3) splits
+    (cells_of (axis_in 3) (cell_in 3) splits refined) refined (stored_in_space splits refined)
 
 -- how many items are given
 abbrev pub pushes : {A : Type 0} → List (Event A) → ℕ
@@ -48,11 +53,21 @@ pushes (e ∷ es) = elim e.step [ push x ↦ suc (pushes es) | pop x ↦ pushes 
 
 -- how many vertices go to the output
 abbrev pub plane_outputs : Direction → ℕ → (ℕ → Box → Bool) → ℕ
-plane_outputs dir splits refined = length (flat_map (given_out Box (λ m v. v) dir (axis_in 2) splits (cells_of (axis_in 2) (cell_in 2) splits refined) (stored_in_plane splits refined)) (walk dir (axis_in 2) (cell_in 2) (cells_of (axis_in 2) (cell_in 2) splits refined) refined splits root walls))
+plane_outputs dir splits refined = length
+    (flat_map
+    (given_out Box (λ m v. v) dir (axis_in 2) splits
+    (cells_of (axis_in 2) (cell_in 2) splits refined) (stored_in_plane splits refined))
+    (walk dir (axis_in 2) (cell_in 2)
+    (cells_of (axis_in 2) (cell_in 2) splits refined) refined splits root walls))
 
 -- and in space
 abbrev pub space_outputs : Direction → ℕ → (ℕ → Box → Bool) → ℕ
-space_outputs dir splits refined = length (flat_map (given_out Box (λ m v. v) dir (axis_in 3) splits (cells_of (axis_in 3) (cell_in 3) splits refined) (stored_in_space splits refined)) (walk dir (axis_in 3) (cell_in 3) (cells_of (axis_in 3) (cell_in 3) splits refined) refined splits root walls))
+space_outputs dir splits refined = length
+    (flat_map
+    (given_out Box (λ m v. v) dir (axis_in 3) splits
+    (cells_of (axis_in 3) (cell_in 3) splits refined) (stored_in_space splits refined))
+    (walk dir (axis_in 3) (cell_in 3)
+    (cells_of (axis_in 3) (cell_in 3) splits refined) refined splits root walls))
 
 -- on one lane: what each pop wants and what it finds on top, whatever it wants
 abbrev pub found_on_top : {A : Type 0} → List A → List (Step A) → List (A × A)
@@ -64,7 +79,8 @@ found_on_top (y ∷ s) (pop x ∷ es) = (x, y) ∷ found_on_top s es
 -- the vertices that a cell finds
 abbrev pub found_by : ℕ → Box → List (BoxPassing × BoxPassing) → List Box
 found_by m b [] = []
-found_by m b (p ∷ ps) = if (p.0.splits == m) && same_box p.0.cell b then p.1.vertex ∷ found_by m b ps else found_by m b ps
+found_by m b (p ∷ ps) = if (p.0.splits == m) && same_box p.0.cell b
+    then p.1.vertex ∷ found_by m b ps else found_by m b ps
 
 -- each cell of the first level gives its place in the order to its neighbours
 abbrev pub place_of_cell : ℕ → Box → Axis → Side → List ℕ
@@ -108,11 +124,14 @@ TwentySevenCellsLaneByLane =
 
 -- in a tree of depth 2 in the plane each cell gives its place in the order of its level, and the cells of the first level are told by 100 more
 abbrev pub place_of_level : ℕ → Box → Axis → Side → List ℕ
-place_of_level m b i h = (if m == 2 then 100 + rank forward (axis_in 2) 2 2 b else rank forward (axis_in 2) 4 0 b) ∷ []
+place_of_level m b i h =
+    (if m == 2 then 100 + rank forward (axis_in 2) 2 2 b else rank forward (axis_in 2) 4 0 b)
+    ∷ []
 
 -- what happens on lane k
 abbrev pub lane_of_two_levels : ℕ → List (Step ℕ)
-lane_of_two_levels k = on_lane k (events ℕ place_of_level forward (axis_in 2) (cell_in 2) 4 root walls)
+lane_of_two_levels k =
+    on_lane k (events ℕ place_of_level forward (axis_in 2) (cell_in 2) 4 root walls)
 
 -- a lane on which each pop finds on top what it wants, and how often
 abbrev pub IsServed : List (Step ℕ) → ℕ → Type 0
@@ -137,14 +156,16 @@ CountsOfSmallGrids =
 
 -- what a cell of the grid with a refined centre finds on a lane
 abbrev pub centre_finds : ℕ → Box → ℕ → List Box
-centre_finds m b k = found_by m b (found_on_top [] (on_lane k (plane_events forward 4 centre_refined)))
+centre_finds m b k =
+    found_by m b (found_on_top [] (on_lane k (plane_events forward 4 centre_refined)))
 
 -- With the centre refined, the centre cell of the first level finds three of its four vertices on top of the lanes, by falling number, and
 -- the fourth, of whose cells it is the first, in the input.
 abbrev pub CentreFindsItsVertices : Type 0
-CentreFindsItsVertices =
-    (centre_finds 2 (at 1 1) 0 ≡ [])
+CentreFindsItsVertices = (centre_finds 2 (at 1 1) 0 ≡ [])
     × (centre_finds 2 (at 1 1) 1 ≡ at 1 1 ∷ [])
-    × (centre_finds 2 (at 1 1) 2 ≡ at 2 2 ∷ (at 1 2 ∷ []))
-    × (centre_finds 2 (at 1 1) 3 ≡ [])
-    × (taken_in Box (λ m v. v) forward (axis_in 2) 4 (cells_of (axis_in 2) (cell_in 2) 4 centre_refined) (stored_in_plane 4 centre_refined) (enter 2 (at 1 1) walls) ≡ at 2 1 ∷ [])
+    × (centre_finds 2 (at 1 1) 2 ≡ at 2 2 ∷ (at 1 2 ∷ [])) × (centre_finds 2 (at 1 1) 3 ≡ [])
+    × (taken_in Box (λ m v. v) forward (axis_in 2) 4
+    (cells_of (axis_in 2) (cell_in 2) 4 centre_refined) (stored_in_plane 4 centre_refined)
+    (enter 2 (at 1 1) walls)
+    ≡ at 2 1 ∷ [])

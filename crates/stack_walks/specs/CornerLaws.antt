@@ -15,7 +15,8 @@ CornersPassAlongLanes A = (same : A → A → Bool) → IsReflexive A same
     → (dir : Direction) (axis : ℕ → Axis) (is_cell : ℕ → Bool) (splits : ℕ)
     (name : ℕ → Box → Box → A) (goes comes : ℕ → Box → Corner → Axis → Side → Bool)
     → AllPass dir axis is_cell splits goes comes
-    → run_all same (λ k. []) (flat_map (by_corners A name goes comes) (visits dir axis is_cell splits root walls))
+    → run_all same (λ k. [])
+    (flat_map (by_corners A name goes comes) (visits dir axis is_cell splits root walls))
     ≡ Some (λ k. [])
 
 -- Each kept vertex goes from each visited cell round it to the next along the lane of their face, and is found there.
@@ -25,7 +26,8 @@ VerticesPassAlongLanes A = (same : A → A → Bool) → IsReflexive A same
     (name : ℕ → Box → Box → A) (visited kept : ℕ → Box → Bool)
     (goes comes : ℕ → Box → Corner → Axis → Side → Bool)
     → AllPassToNext dir axis is_cell splits visited kept goes comes
-    → run_all same (λ k. []) (flat_map (by_corners A name goes comes) (visits dir axis is_cell splits root walls))
+    → run_all same (λ k. [])
+    (flat_map (by_corners A name goes comes) (visits dir axis is_cell splits root walls))
     ≡ Some (λ k. [])
 
 -- At each moment of a walk each lane holds exactly the passings that were given and not yet taken, in the order in which they were given; a
@@ -33,8 +35,8 @@ VerticesPassAlongLanes A = (same : A → A → Bool) → IsReflexive A same
 abbrev pub CornerLanesHoldTheRest : Type 0
 CornerLanesHoldTheRest = (dir : Direction) (axis : ℕ → Axis) (is_cell : ℕ → Bool) (splits : ℕ)
     (goes comes : ℕ → Box → Corner → Axis → Side → Bool)
-    → AllPass dir axis is_cell splits goes comes
-    → (done todo : List (Event BoxPassing))
-    → flat_map (by_corners BoxPassing box_passing goes comes) (visits dir axis is_cell splits root walls)
+    → AllPass dir axis is_cell splits goes comes → (done todo : List (Event BoxPassing))
+    → flat_map (by_corners BoxPassing box_passing goes comes)
+    (visits dir axis is_cell splits root walls)
     ≡ done ++ todo
     → HoldsTheRest BoxPassing same_box_passing done

@@ -9,11 +9,15 @@ use Rattle.stack_law.specs.Passings.{over_faces, at_entry, at_exit}
 module _ (A : Type 0) (name : ℕ → Box → Box → A) (cells : ℕ → Box → Bool) where
   -- a grid cell gives to a grid cell across a face that is left
   abbrev pub given_across : ℕ → Box → Faces → Axis → Side → List (Event A)
-  given_across m b io i h = at_exit (io i h) (if cells m b && cells m (beyond i h b) then record { on = lane i h b; step = push (name m b (beyond i h b)) } ∷ [] else [])
+  given_across m b io i h = at_exit (io i h)
+      (if cells m b && cells m (beyond i h b)
+      then record { on = lane i h b; step = push (name m b (beyond i h b)) } ∷ [] else [])
 
   -- it takes from a grid cell across a face that is entered
   abbrev pub taken_across : ℕ → Box → Faces → Axis → Side → List (Event A)
-  taken_across m b io i h = at_entry (io i h) (if cells m (beyond i h b) && cells m b then record { on = lane i h b; step = pop (name m (beyond i h b) b) } ∷ [] else [])
+  taken_across m b io i h = at_entry (io i h)
+      (if cells m (beyond i h b) && cells m b
+      then record { on = lane i h b; step = pop (name m (beyond i h b) b) } ∷ [] else [])
 
   -- what a visit does on the lanes
   abbrev pub by_faces : Visit → List (Event A)

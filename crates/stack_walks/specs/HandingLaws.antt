@@ -11,7 +11,8 @@ abbrev pub NeighboursTellTheRun : Type 0
 NeighboursTellTheRun = (dir : Direction) (axis : ℕ → Axis) (is_cell : ℕ → Bool) (splits : ℕ)
     (visited kept : ℕ → Box → Bool)
     → KeptUnbroken dir axis splits visited kept is_cell
-    → AllPassToNext dir axis is_cell splits visited kept (goes_on dir axis splits visited kept) (came_from dir axis splits visited kept)
+    → AllPassToNext dir axis is_cell splits visited kept (goes_on dir axis splits visited kept)
+    (came_from dir axis splits visited kept)
 
 -- one face of a corner
 pub record IsOnlyFace (f : Axis → Side → Bool) (i : Axis) (h : Side) : Type 0 where
@@ -28,11 +29,16 @@ HasOneWay ends f = (ends ≡ true × ((i : Axis) (h : Side) → f i h ≡ false)
 abbrev pub EachCornerHasOneWay : Type 0
 EachCornerHasOneWay = (dir : Direction) (axis : ℕ → Axis) (is_cell : ℕ → Bool) (splits : ℕ)
     (visited kept : ℕ → Box → Bool)
-    → KeptUnbroken dir axis splits visited kept is_cell
-    → (m : ℕ) (b : Box) (c : Corner) → is_cell m ≡ true → m ≤ splits
-    → IsInDomain (extent axis (splits - m) m) b
+    → KeptUnbroken dir axis splits visited kept is_cell → (m : ℕ) (b : Box) (c : Corner)
+    → is_cell m ≡ true → m ≤ splits → IsInDomain (extent axis (splits - m) m) b
     → has_kept_corner dir axis splits visited kept m b c ≡ true
-    → HasOneWay (ends_at dir axis splits visited kept m b c) (goes_on dir axis splits visited kept m b c)
-    × HasOneWay (begins_at dir axis splits visited kept m b c) (came_from dir axis splits visited kept m b c)
-    × (ends_at dir axis splits visited kept m b c ≡ true → IsLastVisited (rank dir axis (splits - m) m) (extent axis (splits - m) m) (visited m) (vertex b c) b)
-    × (begins_at dir axis splits visited kept m b c ≡ true → IsFirstVisited (rank dir axis (splits - m) m) (extent axis (splits - m) m) (visited m) (vertex b c) b)
+    → HasOneWay (ends_at dir axis splits visited kept m b c)
+    (goes_on dir axis splits visited kept m b c)
+    × HasOneWay (begins_at dir axis splits visited kept m b c)
+    (came_from dir axis splits visited kept m b c)
+    × (ends_at dir axis splits visited kept m b c ≡ true
+    → IsLastVisited (rank dir axis (splits - m) m) (extent axis (splits - m) m) (visited m)
+    (vertex b c) b)
+    × (begins_at dir axis splits visited kept m b c ≡ true
+    → IsFirstVisited (rank dir axis (splits - m) m) (extent axis (splits - m) m) (visited m)
+    (vertex b c) b)

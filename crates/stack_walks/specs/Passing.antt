@@ -15,4 +15,5 @@ box_passing m v q = record { splits = m; vertex = v; cell = q }
 
 -- whether two passings are the same
 abbrev pub same_box_passing : BoxPassing → BoxPassing → Bool
-same_box_passing p q = (p.splits == q.splits) && (same_box p.vertex q.vertex && same_box p.cell q.cell)
+same_box_passing p q = (p.splits == q.splits)
+    && (same_box p.vertex q.vertex && same_box p.cell q.cell)

@@ -12,5 +12,8 @@ abbrev pub OutputTurnedIsInput : Type 0 → Type 0
 OutputTurnedIsInput A = (name : ℕ → Box → A) (dir : Direction) (axis : ℕ → Axis)
     (is_cell : ℕ → Bool) (splits : ℕ) (visited visited' kept : ℕ → Box → Bool)
     → AgreeRoundKept axis is_cell splits visited visited' kept
-    → reverse (flat_map (given_out A name dir axis splits visited kept) (visits dir axis is_cell splits root walls))
-    ≡ flat_map (taken_in A name (turned_round dir) axis splits visited' kept) (visits (turned_round dir) axis is_cell splits root walls)
+    → reverse
+    (flat_map (given_out A name dir axis splits visited kept)
+    (visits dir axis is_cell splits root walls))
+    ≡ flat_map (taken_in A name (turned_round dir) axis splits visited' kept)
+    (visits (turned_round dir) axis is_cell splits root walls)

@@ -12,7 +12,8 @@ use Rattle.stack_walks.specs.Handing.{KeptUnbroken}
 use Rattle.stack_walks.specs.Streams.{AgreeRoundKept}
 
 -- each kept vertex has round it cells of the old grid alone, or of the new grid alone
-abbrev pub KeptAreStoredInOne : (ℕ → Axis) → (ℕ → Bool) → ℕ → (ℕ → Box → Bool) → (ℕ → Box → Bool) → (ℕ → Box → Bool) → Type 0
+abbrev pub KeptAreStoredInOne : (ℕ → Axis) → (ℕ → Bool) → ℕ → (ℕ → Box → Bool) → (ℕ → Box → Bool)
+    → (ℕ → Box → Bool) → Type 0
 KeptAreStoredInOne axis is_cell splits old new kept = (m : ℕ) (v : Box) → is_cell m ≡ true
     → m ≤ splits → kept m v ≡ true
     → IsStored (extent axis (splits - m) m) (old m) v
@@ -36,22 +37,28 @@ abbrev pub RangesAreUnbroken : Type 0
 RangesAreUnbroken = (dir : Direction) (axis : ℕ → Axis) (is_cell : ℕ → Bool) (splits start stop : ℕ)
     (cells kept : ℕ → Box → Bool)
     → KeptAreStored axis is_cell splits cells kept
-    → KeptUnbroken dir axis splits (both_hold cells (meets_range axis splits start stop)) kept is_cell
+    → KeptUnbroken dir axis splits
+    (both_hold cells (meets_range axis splits start stop)) kept is_cell
 
 -- Where no cell lies below a closed one, no cell that a range holds lies below one that is closed or not held.
 abbrev pub RangesAreClosed : Type 0
-RangesAreClosed = (axis : ℕ → Axis) (is_cell : ℕ → Bool) (splits start stop : ℕ)
-    (cells is_open : ℕ → Box → Bool)
+RangesAreClosed =
+    (axis : ℕ → Axis) (is_cell : ℕ → Bool) (splits start stop : ℕ) (cells is_open : ℕ → Box → Bool)
     → ClosedAreEmpty axis is_cell splits cells is_open
-    → ClosedAreEmpty axis is_cell splits (both_hold cells (meets_range axis splits start stop)) (both_hold is_open (meets_range axis splits start stop))
+    → ClosedAreEmpty axis is_cell splits (both_hold cells (meets_range axis splits start stop))
+    (both_hold is_open (meets_range axis splits start stop))
 
 -- Round the vertices that an old grid stores, a walk of that grid and a walk of it and a new one visit the same cells; so do, round the vertices that
 -- the new grid stores, a walk of both grids and a walk of the new one. The same holds of the cells that a set, such as a range, has of them.
 abbrev pub WalksAgreeRoundKept : Type 0
-WalksAgreeRoundKept = (axis : ℕ → Axis) (is_cell : ℕ → Bool) (splits : ℕ)
-    (old new held kept : ℕ → Box → Bool)
-    → (KeptAreStored axis is_cell splits old kept → AgreeRoundKept axis is_cell splits (both_hold old held) (both_hold (one_holds old new) held) kept)
-    × (KeptAreStored axis is_cell splits new kept → AgreeRoundKept axis is_cell splits (both_hold (one_holds old new) held) (both_hold new held) kept)
+WalksAgreeRoundKept =
+    (axis : ℕ → Axis) (is_cell : ℕ → Bool) (splits : ℕ) (old new held kept : ℕ → Box → Bool)
+    → (KeptAreStored axis is_cell splits old kept
+    → AgreeRoundKept axis is_cell splits (both_hold old held)
+    (both_hold (one_holds old new) held) kept)
+    × (KeptAreStored axis is_cell splits new kept
+    → AgreeRoundKept axis is_cell splits (both_hold (one_holds old new) held)
+    (both_hold new held) kept)
 
 -- a cell by how many splits it has left and by its coordinates
 pub record Cell : Type 0 where
@@ -77,5 +84,7 @@ abbrev pub VisitsHappenOnce : Type 0
 VisitsHappenOnce = (dir : Direction) (axis : ℕ → Axis) (is_cell : ℕ → Bool) (splits : ℕ)
     (visited is_open : ℕ → Box → Bool)
     → ClosedAreEmpty axis is_cell splits visited is_open
-    → AreDistinct same_cell (flat_map entered_by (walk dir axis is_cell visited is_open splits root walls))
-    × AreDistinct same_cell (flat_map left_by (walk dir axis is_cell visited is_open splits root walls))
+    → AreDistinct same_cell
+    (flat_map entered_by (walk dir axis is_cell visited is_open splits root walls))
+    × AreDistinct same_cell
+    (flat_map left_by (walk dir axis is_cell visited is_open splits root walls))

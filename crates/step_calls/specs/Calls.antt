@@ -16,14 +16,17 @@ pub record Calls : Type 0 where
   pub leaving : ℕ → Bool
 
 -- one call changes the slots of its own cell as it does at this cell, and no other slot
-pub record CallChanges (cell : CellKey) (E : Slot → Slot → Type 0) (c : CellKey) (old new : Slot) : Type 0 where
+pub record CallChanges (cell : CellKey) (E : Slot → Slot → Type 0) (c : CellKey)
+    (old new : Slot) : Type 0 where
   pub here : cell ≡ c → E old new
   pub away : cell ≢ c → new ≡ old
 
 -- a tree's store before the first call and after each: what a call does depends on whether the cell is left, and on the cell
-pub record AreMade (k : Cuts) (g : Spacetree) (t : ℕ) (s : Calls) (E : Bool → CellKey → Slot → Slot → Type 0) (at : ℕ → Store) : Type 0 where
+pub record AreMade (k : Cuts) (g : Spacetree) (t : ℕ) (s : Calls)
+    (E : Bool → CellKey → Slot → Slot → Type 0) (at : ℕ → Store) : Type 0 where
   pub step : (m : ℕ) (v : VertexKey) → m < s.count → HasVertex k g t v
-      → IsSweptRecord k (CallChanges (s.cell m) (E (s.leaving m) (s.cell m))) v (at m v) (at (m + 1) v)
+      → IsSweptRecord k (CallChanges (s.cell m) (E (s.leaving m) (s.cell m))) v (at m v)
+      (at (m + 1) v)
 
 -- a cell is entered and left once
 pub record IsVisited (s : Calls) (c : CellKey) (enter leave : ℕ) : Type 0 where

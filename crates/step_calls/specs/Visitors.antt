@@ -25,7 +25,8 @@ PrimaryCalls = (k : Cuts) (w : Change) (t : ℕ) (s : Calls) (at : ℕ → Store
     → IsSwept k w.old t (PrimaryChanges k w t) (at 0) (at s.count)
 
 -- the secondary visitor does its work at a leaf when it is entered, and at a refined cell when it is left
-pub record SecondaryCall (k : Cuts) (w : Change) (t : ℕ) (leaving : Bool) (c : CellKey) (old new : Slot) : Type 0 where
+pub record SecondaryCall (k : Cuts) (w : Change) (t : ℕ) (leaving : Bool) (c : CellKey)
+    (old new : Slot) : Type 0 where
   pub status : new.status ≡ old.status
   pub value : new.value ≡ old.value
   pub mark : new.mark ≡ old.mark
@@ -40,7 +41,8 @@ SecondaryCalls = (k : Cuts) (w : Change) (t : ℕ) (s : Calls) (at : ℕ → Sto
     → IsSwept k w.old t (SecondaryChanges k w t) (at 0) (at s.count)
 
 -- what is told at the leave of a centre child stands at its level until another centre child of that level is left
-pub record Remembers {A : Type 0} (dim : Dim) (s : Calls) (told : ℕ → A) (memo : ℕ → ℕ → A) : Type 0 where
+pub record Remembers {A : Type 0} (dim : Dim) (s : Calls) (told : ℕ → A)
+    (memo : ℕ → ℕ → A) : Type 0 where
   pub put : (m : ℕ) → m < s.count → s.leaving m ≡ true → IsCentre dim (s.cell m)
       → memo (m + 1) (s.cell m).level ≡ told m
   pub keep : (m l : ℕ) → m < s.count

@@ -10,6 +10,7 @@ use Rattle.peano_keys.specs.Next.{IsNextGrid}
 use Rattle.peano_curve.specs.declared.order.Direction.{Direction}
 use Rattle.solver_api.specs.Step.{marks_of}
 use Rattle.curve_cuts.specs.Cuts.{Cuts, IsCutGrid, range_of}
+use Rattle.peano_records.specs.declared.partials.Partial.{Partial}
 use Rattle.vertex_stacks.specs.Notes.{Note}
 use Rattle.sweep_visits.specs.Runs.{turned_round}
 use Rattle.tree_automaton.specs.TreeLists.{TreeLists}
@@ -107,10 +108,10 @@ module _ (kernel : Kernel) (k : Cuts) (dir : Direction) (g : Spacetree) (f : Sta
     new = grid_exists.0
 
     by : IsChangeBy kernel g f (pending kernel g f new)
-    by = pending_by kernel g f new (deep_grid k g all.grid)
+    by = pending_by kernel g f new
 
     to_finish : IsToFinish (pending kernel g f new) f
-    to_finish = pending_to_finish kernel g f new (deep_grid k g all.grid) grid_exists.1
+    to_finish = pending_to_finish kernel g f new grid_exists.1
 
     -- the swept stores can exchange
     pub swept_trees : AreTrees k swept
@@ -124,14 +125,14 @@ module _ (kernel : Kernel) (k : Cuts) (dir : Direction) (g : Spacetree) (f : Sta
     can_finish after merged = (turned_round dir, pending kernel g f new, f, are_marked after merged)
 
 -- finished stores have the lists of the grid,
-pub finished_lists : (k : Cuts) (dir : Direction) (w : Change) (step : ℕ) (before after : List TreeLists) (old noted : List Note) (found : Findings) →
-    AreFinished k dir w step before after old noted found → AllHaveLists k (turned_round dir) w.old after
-finished_lists k dir w step before after old noted found h = record { count = h.trees.count; each = λ t below. (h.trees.changed t below).lists }
+pub finished_lists : (k : Cuts) (parts : ℕ) (dir : Direction) (w : Change) (step : ℕ) (before after : List TreeLists) (partials : List (List Partial)) (old noted : List Note) (found : Findings) →
+    AreFinished k parts dir w step before after partials old noted found → AllHaveLists k (turned_round dir) w.old after
+finished_lists k parts dir w step before after partials old noted found h = record { count = h.trees.count; each = λ t below. (h.trees.changed t below).lists }
 
 -- and can exchange
-pub finished_trees : (k : Cuts) (dir : Direction) (w : Change) (step : ℕ) (before after : List TreeLists) (old noted : List Note) (found : Findings) → IsCutGrid k w.old →
-    AreFinished k dir w step before after old noted found → AreTrees k after
-finished_trees k dir w step before after old noted found fits h = trees_from_lists k (turned_round dir) w.old after fits (finished_lists k dir w step before after old noted found h)
+pub finished_trees : (k : Cuts) (parts : ℕ) (dir : Direction) (w : Change) (step : ℕ) (before after : List TreeLists) (partials : List (List Partial)) (old noted : List Note) (found : Findings) → IsCutGrid k w.old →
+    AreFinished k parts dir w step before after partials old noted found → AreTrees k after
+finished_trees k parts dir w step before after partials old noted found fits h = trees_from_lists k (turned_round dir) w.old after fits (finished_lists k parts dir w step before after partials old noted found h)
 
 -- so do adapted ones those of the new grid,
 pub adapted_lists : (k : Cuts) (dir : Direction) (w : Change) (step : ℕ) (before after : List TreeLists) (old noted : List Note) → AllCanAdapt k dir w before → AreAdapted k dir w step before after old noted → AllHaveLists k (turned_round dir) w.new after

@@ -40,6 +40,18 @@ each_changes R P store trees before after all count gives is leads = record {
       subst (P t (store_of before t)) (sym (ap (λ xs. store_of xs t) is ∙ get_or-map store all t e no_store there)) (leads t (slice_index_or all t e) below (gives.each t no_store e inside));
 }
 
+-- so where this says something of the place in the list, too
+pub each_changes_at : {Y : Type 0} (R : TreeLists → Y → Type 0) (P : ℕ → TreeLists → TreeLists → Type 0) (store : Y → TreeLists) (trees : ℕ) (before after : List TreeLists) (all : List Y) →
+    length before ≡ trees → EachGives R before all → after ≡ map store all → ((t : ℕ) (e : Y) → t < trees → t < length all → R (store_of before t) (slice_index_or all t e) → P t (store_of before t) (store (slice_index_or all t e))) → ChangesEach P trees before after
+each_changes_at R P store trees before after all count gives is leads = record {
+  count = ap length is ∙ length-map all store ∙ gives.count ∙ count;
+  changed = λ t below.
+      let inside : t < length before = omega (arith, below, count) in
+      let there : t < length all = omega (arith, inside, gives.count) in
+      let e = some_item all t there in
+      subst (P t (store_of before t)) (sym (ap (λ xs. store_of xs t) is ∙ get_or-map store all t e no_store there)) (leads t e below there (gives.each t no_store e inside));
+}
+
 -- what stands at a place gave what was read there
 pub gives_item : {X Y : Type 0} (R : X → Y → Type 0) (xs : List X) (ys : List Y) (t : ℕ) (d : X) (y : Y) → EachGives R xs ys → t < length xs → y ≡ slice_index_or ys t y → R (slice_index_or xs t d) y
 gives_item R xs ys t d y gives inside read = subst (R (slice_index_or xs t d)) (sym read) (gives.each t d y inside)

@@ -19,6 +19,7 @@ pub mod Sizes
 pub mod Refused
 pub mod NextTold
 pub mod Began
+pub mod Summed
 pub mod SweptTwice
 pub mod Stepped
 pub mod Taken

@@ -14,6 +14,7 @@ use Rattle.spacetree.specs.declared.fault.EvalFault.TheVariants.{Overflow, Crowd
 use Rattle.spacetree.specs.Counts.{cells_of}
 use Rattle.spacetree.specs.Evaluation.{StepFails, Crowds}
 use Rattle.curve_cuts.specs.Cuts.{Cuts, IsCutGrid}
+use Rattle.peano_records.specs.declared.partials.Partial.{Partial}
 use Rattle.curve_cuts.specs.Enclave.{OwnsLeaf, IsSkeleton, IsEnclave}
 use Rattle.curve_cuts.proofs.Cuts.{owner_exists}
 use Rattle.vertex_stacks.specs.Notes.{Note}
@@ -39,9 +40,9 @@ all_fail updated g f None h = h
 all_fail updated g f (Some c) h = record { leaf = h.kind; failed = h.failed; least = h.least }
 
 -- what the primary sweeps of all trees found of skeleton leaves and the secondary ones of enclaves is so of all leaves
-pub both_fail : (kernel : Kernel) (k : Cuts) (dir back : Direction) (w : Change) (f : States) (step : ℕ) (before swept marked after : List TreeLists) (old noted new : List Note) (early : Option CellKey) (late : Findings) → IsCutGrid k w.old → IsChangeBy kernel w.old f w →
-    AreComputed kernel k dir w.old f step before swept old noted early → AreFinished k back w step marked after noted new late → Fails kernel.updated w.old f (least_with early late.failing)
-both_fail kernel k dir back w f step before swept marked after old noted new early late fits by primary secondary =
+pub both_fail : (kernel : Kernel) (k : Cuts) (dir back : Direction) (w : Change) (f : States) (step : ℕ) (before swept marked after : List TreeLists) (partials : List (List Partial)) (old noted new : List Note) (early : Option CellKey) (late : Findings) → IsCutGrid k w.old → IsChangeBy kernel w.old f w →
+    AreComputed kernel k dir w.old f step before swept old noted early → AreFinished k kernel.parts back w step marked after partials noted new late → Fails kernel.updated w.old f (least_with early late.failing)
+both_fail kernel k dir back w f step before swept marked after partials old noted new early late fits by primary secondary =
     let next = new_state kernel.updated w.old f in
     let leaf : (t : ℕ) (c : CellKey) → OwnsLeaf k w.old t c → IsLeafOf w.old c = λ t c owns. record { cell = subst (λ d. IsCell d c) (sym fits.dim) owns.cell; leaf = owns.leaf } in
     let skeleton : FailsAmong (Some_tree k.trees (IsSkeleton k w.old)) next early = trees_fail (IsSkeleton k w.old) next k.trees primary.told.found primary.told.tells early primary.told.least in

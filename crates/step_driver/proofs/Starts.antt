@@ -62,7 +62,7 @@ can_be_raised k g t s fits below is = subst (CanBeRaised k g) (sym is) (record {
 pub raised_store : (k : Cuts) (g : Spacetree) (f : States) (t : ℕ) (s : TreeLists) (r : Swept Unit) → IsCutGrid k g → s ≡ new_store k.dim k.depth (range_of k t) t → IsRaisedTree k g f 0 s r.store r.note → IsRaisedWith k g f t r
 raised_store k g f t s r fits is h =
     let raised : IsRaisedTree k g f 0 (new_store k.dim k.depth (range_of k t) t) r.store r.note = subst (λ z. IsRaisedTree k g f 0 z r.store r.note) is h in
-    let noted : r.note ≡ note_raised (sizes_of k) g t = raised.noted.counts ∙ note_raising k g t fits in
+    let noted : r.note ≡ note_raised (sizes_of k) 0 g t = raised.noted.counts ∙ note_raising k g t fits in
     record { store = record { lists = raised.lists; slots = raised.slots; tale = raised.noted.tale ∙ ap (with_note no_tale) noted }; noted = noted }
 
 module _ {E : Type 0} (k : Cuts) (g : Spacetree) (f : States) (given : List (Result (Swept Unit) E)) (swept : List (Swept Unit)) (may : MayBeRaised k g f given) (is : given ≡ map Ok swept) where
@@ -72,7 +72,7 @@ module _ {E : Type 0} (k : Cuts) (g : Spacetree) (f : States) (given : List (Res
       one_there (IsRaisedWith k g f t) given swept t e is (omega (arith, below, count)) (may.each t (Ok e) below)
 
   -- all trees are raised
-  pub all_raised : (stores : List TreeLists) (notes : List Note) → stores ≡ map (λ (r : Swept Unit). r.store) swept → notes ≡ by_trees k.trees (note_raised (sizes_of k) g) → AreRaised k g f k.trees stores notes
+  pub all_raised : (stores : List TreeLists) (notes : List Note) → stores ≡ map (λ (r : Swept Unit). r.store) swept → notes ≡ by_trees k.trees (note_raised (sizes_of k) 0 g) → AreRaised k g f k.trees stores notes
   all_raised stores notes are noted =
       let count = all_there given swept k.trees is may.count in
       record {
@@ -92,7 +92,7 @@ module _ (k : Cuts) (g : Spacetree) (f : States) (stores : List TreeLists) (note
   each_raised t v has = (h.each t has.corner.tree).slots v has
 
   raised_tales : HaveTales k.trees stores notes
-  raised_tales = subst (HaveTales k.trees stores) (sym h.noted) (tales_grow (note_raised (sizes_of k) g) (λ s. refl) grows k.trees [] stores [] (λ t below. sym grows.0) (λ t below. (h.each t below).tale))
+  raised_tales = subst (HaveTales k.trees stores) (sym h.noted) (tales_grow (note_raised (sizes_of k) 0 g) (λ s. refl) grows k.trees [] stores [] (λ t below. sym grows.0) (λ t below. (h.each t below).tale))
 
   -- raised trees that exchanged
   pub started : (after : List TreeLists) → AllMerged Opening k stores after → AreStarted k g f after notes

@@ -11,6 +11,7 @@ use Rattle.spacetree.specs.Counts.{cells_of}
 use Rattle.spacetree.specs.declared.fault.EvalFault.{EvalFault}
 use Rattle.spacetree.specs.declared.fault.EvalFault.TheVariants.{Overflow, Crowded, NoMemory}
 use Rattle.curve_cuts.specs.Cuts.{Cuts, IsCutGrid}
+use Rattle.peano_records.specs.declared.partials.Partial.{Partial}
 use Rattle.vertex_stacks.specs.declared.kind.Kind.TheVariants.{Primary, Secondary}
 use Rattle.vertex_stacks.specs.Notes.{Note}
 use Rattle.sweep_visits.specs.Runs.{turned_round}
@@ -31,7 +32,7 @@ use Rattle.step_driver.specs.Refusing.{IsRefusal}
 use Rattle.step_driver.specs.Sizes.{IsTurnover, IsSizeAfter}
 use Rattle.step_driver.specs.Stepping.{IsComputedStep, StoppedStep, IsStepTaken}
 use Rattle.step_driver.specs.Worlds.{AreAt}
-use Rattle.step_driver.proofs.Began.{grid_exists, are_marked, stand_on, both_noted, adds_more, adds_after}
+use Rattle.step_driver.proofs.Began.{grid_exists, are_marked, stand_on, both_noted, adds_more, adds_after, adds_all}
 use Rattle.step_driver.proofs.Pend.{pending_by}
 use Rattle.step_driver.proofs.Refused.{both_fail, step_fails, step_served}
 use Rattle.step_driver.proofs.Sizes.{turnover_counted}
@@ -58,15 +59,15 @@ pub record Serves (kernel : Kernel) (k : Cuts) (g : Spacetree) (f : States) (siz
   pub counted : size ≡ cells_of later
   pub room : cells_of later ≤ 200000
 
-module _ (kernel : Kernel) (k : Cuts) (g : Spacetree) (f : States) (step : ℕ) (before after : List TreeLists) (old new : List Note) (found : Findings) (cells : ℕ)
-    (at : AreAt kernel.parts k before old cells g f) (h : IsComputedStep kernel k at.dir g f step before after old new found) where
+module _ (kernel : Kernel) (k : Cuts) (g : Spacetree) (f : States) (step : ℕ) (before after : List TreeLists) (partials : List (List Partial)) (old new : List Note) (found : Findings) (cells : ℕ)
+    (at : AreAt kernel.parts k before old cells g f) (h : IsComputedStep kernel k at.dir g f step before after partials old new found) where
   all : AllStandOn k kernel.parts at.dir g f before
   all = stand_on kernel.parts k before old cells g f at
 
   abbrev next : Spacetree
   next = (grid_exists kernel k at.dir g f step before all).0
 
-  finished : AreFinished k (turned_round at.dir) (pending kernel g f next) step h.marked h.finished h.noted new h.late
+  finished : AreFinished k kernel.parts (turned_round at.dir) (pending kernel g f next) step h.marked after partials h.noted new h.late
   finished = h.secondary (pending kernel g f next) (are_marked kernel k at.dir g f step before all h.swept old h.noted h.early h.primary h.marked h.first)
 
   pub turnover_is : (dim : Dim) → k.dim ≡ dim → IsTurnover dim cells g (marks_of kernel.marked g f) found.turnover
@@ -81,7 +82,7 @@ module _ (kernel : Kernel) (k : Cuts) (g : Spacetree) (f : States) (step : ℕ) 
 
   fails : Fails kernel.updated g f found.failing
   fails = subst (Fails kernel.updated g f) (sym h.failing)
-      (both_fail kernel k at.dir (turned_round at.dir) (pending kernel g f next) f step before h.swept h.marked h.finished old h.noted new h.early h.late at.fits (pending_by kernel g f next (deep_grid k g at.fits)) h.primary finished)
+      (both_fail kernel k at.dir (turned_round at.dir) (pending kernel g f next) f step before h.swept h.marked after partials old h.noted new h.early h.late at.fits (pending_by kernel g f next) h.primary finished)
 
   module _ (dim : Dim) (same : k.dim ≡ dim) (size : ℕ) (sized : IsSizeAfter dim cells found.turnover size) where
     -- why it is refused
@@ -104,6 +105,10 @@ module _ (kernel : Kernel) (k : Cuts) (g : Spacetree) (f : States) (step : ℕ) 
           counted = counted.0;
           room = counted.1;
         }
+
+  -- where memory was wanting in the part that settles
+  pub stopped_settling : (adapts : Bool) → StoppedStep kernel adapts k g f step old new NoMemory
+  stopped_settling adapts = stopped_computing kernel adapts k g f step before old new cells at (adds_all old new (computing_notes (sizes_of k) k.trees step g) noted)
 
   -- where memory was wanting in the part that adapts
   pub stopped_adapting : (later : Spacetree) (last : List Note) → IsNextGrid g (marks_of kernel.marked g f) later → AddsFirst new last (by_trees k.trees (note_adapted (sizes_of k) step g later)) → StoppedStep kernel true k g f step old last NoMemory

@@ -18,7 +18,8 @@ use Rattle.step_driver.specs.Stores.{store_of, ChangesEach}
 use Rattle.step_driver.specs.Notes.{sizes_of}
 
 -- the store of each tree stands before the adaptation that a change makes, and all are read in one direction
-pub record AllCanAdapt (k : Cuts) (dir : Direction) (w : Change) (stores : List TreeLists) : Type 0 where
+pub record AllCanAdapt (k : Cuts) (dir : Direction) (w : Change)
+    (stores : List TreeLists) : Type 0 where
   pub grid : IsCutGrid k w.new
   pub count : length stores ≡ k.trees
   pub number : (t : ℕ) → t < k.trees → (store_of stores t).tree ≡ t
@@ -27,7 +28,8 @@ pub record AllCanAdapt (k : Cuts) (dir : Direction) (w : Change) (stores : List 
 
 -- for some change to a grid
 abbrev pub AllCanTake : Cuts → Spacetree → List TreeLists → Type 0
-AllCanTake k new stores = (dir : Direction) × (w : Change) × (w.new ≡ new) × AllCanAdapt k dir w stores
+AllCanTake k new stores = (dir : Direction) × (w : Change) × (w.new ≡ new)
+    × AllCanAdapt k dir w stores
 
 -- the store of a tree stands before an adaptation to a grid
 abbrev pub CanTake : Cuts → Spacetree → TreeLists → Type 0
@@ -35,15 +37,19 @@ CanTake k new x = (w : Change) × (w.new ≡ new) × CanBeAdapted k w x
 
 -- what the adaptation sweep of one tree to a grid gives, whatever change leads there
 abbrev pub Adapts : Cuts → Spacetree → ℕ → TreeLists → Swept Unit → Type 0
-Adapts k new step x r = (w : Change) → w.new ≡ new → CanBeAdapted k w x → IsAdaptedTree k w step x r.store r.note
+Adapts k new step x r = (w : Change) → w.new ≡ new → CanBeAdapted k w x
+    → IsAdaptedTree k w step x r.store r.note
 
 -- what an adaptation sweep makes of the store of a tree: it has the lists of the new grid, read the other way; its copies are adapted; and the tale has one note more
-pub record IsAdaptedStore (k : Cuts) (dir : Direction) (w : Change) (step t : ℕ) (before after : TreeLists) : Type 0 where
+pub record IsAdaptedStore (k : Cuts) (dir : Direction) (w : Change) (step t : ℕ)
+    (before after : TreeLists) : Type 0 where
   pub lists : HasLists (plain_plan k.depth (range_of k t) (turned_round dir) w.new) t after
   pub slots : IsAdapted k w t (copies before.lanes.input) (copies after.lanes.input)
-  pub tale : after.lanes.tale ≡ with_note before.lanes.tale (note_adapted (sizes_of k) step w.old w.new t)
+  pub tale : after.lanes.tale
+      ≡ with_note before.lanes.tale (note_adapted (sizes_of k) step w.old w.new t)
 
 -- so the stores of all trees, and their notes
-pub record AreAdapted (k : Cuts) (dir : Direction) (w : Change) (step : ℕ) (before after : List TreeLists) (old notes : List Note) : Type 0 where
+pub record AreAdapted (k : Cuts) (dir : Direction) (w : Change) (step : ℕ)
+    (before after : List TreeLists) (old notes : List Note) : Type 0 where
   pub trees : ChangesEach (IsAdaptedStore k dir w step) k.trees before after
   pub noted : notes ≡ old ++ by_trees k.trees (note_adapted (sizes_of k) step w.old w.new)

@@ -11,14 +11,16 @@ use Rattle.solver_api.specs.Step.{IsLeafOf}
 
 -- what stands at a position is a leaf that begins there
 abbrev pub LeavesBegin : ℕ → Spacetree → BTreeMap ℕ CellKey → Type 0
-LeavesBegin depth g starts = (p : ℕ) → IfSome (tree.get nat_cmp starts p) (λ c. IsLeafOf g c × (interval_start g.dim c depth ≡ p))
+LeavesBegin depth g starts = (p : ℕ)
+    → IfSome (tree.get nat_cmp starts p) (λ c. IsLeafOf g c × (interval_start g.dim c depth ≡ p))
 
 -- a cell stands where it begins
 abbrev pub StandsIn : ℕ → Spacetree → BTreeMap ℕ CellKey → CellKey → Type 0
 StandsIn depth g starts c = tree.get nat_cmp starts (interval_start g.dim c depth) ≡ Some c
 
 -- the first cells of a list stand where they begin, and nothing but leaves does
-pub record HasFirst (depth : ℕ) (g : Spacetree) (leaves : List CellKey) (count : ℕ) (starts : BTreeMap ℕ CellKey) : Type 0 where
+pub record HasFirst (depth : ℕ) (g : Spacetree) (leaves : List CellKey) (count : ℕ)
+    (starts : BTreeMap ℕ CellKey) : Type 0 where
   pub only : LeavesBegin depth g starts
   pub first : (i : ℕ) → i < count → StandsIn depth g starts (slice_index_or leaves i root)
 

@@ -13,6 +13,7 @@ pub mod Pending
 pub mod Adapting
 pub mod Sizes
 pub mod Refusing
+pub mod Summing
 pub mod Stepping
 pub mod Advances
 pub mod Showing

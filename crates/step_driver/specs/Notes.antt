@@ -15,11 +15,15 @@ use Rattle.step_driver.specs.Stores.{store_of}
 
 -- what the trees of some cuts have and move: the stored vertices that a tree has, and the passings of a sweep. A sweep's direction makes no difference to these numbers.
 abbrev pub sizes_of : Cuts → Sizes
-sizes_of k = record {
-  stored = λ g t. capped (length (taken_by (moves_of (plain_plan k.depth (range_of k t) Forward g))));
-  pushes = λ g t. capped (length (pushed_by (moves_of (plain_plan k.depth (range_of k t) Forward g))));
-  pushes_between = λ old new t. capped (length (pushed_by (moves_of (adapting_plan k.depth (range_of k t) Forward old new))));
-}
+sizes_of k =
+    record {
+      stored = λ g t. capped
+          (length (taken_by (moves_of (plain_plan k.depth (range_of k t) Forward g))));
+      pushes = λ g t. capped
+          (length (pushed_by (moves_of (plain_plan k.depth (range_of k t) Forward g))));
+      pushes_between = λ old new t. capped
+          (length (pushed_by (moves_of (adapting_plan k.depth (range_of k t) Forward old new))));
+    }
 
 -- the notes of one tree
 abbrev pub notes_of : ℕ → List Note → List Note
@@ -27,12 +31,15 @@ notes_of t ns = filter (λ (m : Note). m.tree == t) ns
 
 -- the tale of each tree's store is that of the tree's notes
 abbrev pub HaveTales : ℕ → List TreeLists → List Note → Type 0
-HaveTales trees stores ns = (t : ℕ) → t < trees → (store_of stores t).lanes.tale ≡ tale_of (notes_of t ns)
+HaveTales trees stores ns = (t : ℕ) → t < trees
+    → (store_of stores t).lanes.tale ≡ tale_of (notes_of t ns)
 
 -- the notes that a step of these trees from one grid to the next adds
 abbrev pub added_notes : Cuts → Bool → ℕ → Spacetree → Spacetree → List Note
-added_notes k adapts step g h = step_notes (sizes_of k) (record { trees = k.trees; adapts = adapts; printed = λ s. false }) step g h
+added_notes k adapts step g h = step_notes (sizes_of k)
+    (record { trees = k.trees; adapts = adapts; recuts = λ s. false; printed = λ s. false }) step g h
 
 -- the notes that were added to some are the first of others
 abbrev pub AddsFirst : List Note → List Note → List Note → Type 0
-AddsFirst old new all = (first : List Note) × (rest : List Note) × (new ≡ old ++ first) × (all ≡ first ++ rest)
+AddsFirst old new all = (first : List Note) × (rest : List Note) × (new ≡ old ++ first)
+    × (all ≡ first ++ rest)

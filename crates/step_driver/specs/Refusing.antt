@@ -9,5 +9,6 @@ use Rattle.spacetree.specs.declared.fault.EvalFault.TheVariants.{Overflow, Crowd
 abbrev pub IsRefusal : Option CellKey → ℕ → ℕ → Option EvalFault → Type 0
 IsRefusal failing cells step None = (failing ≡ None) × (cells ≤ MOST_CELLS)
 IsRefusal failing cells step (Some (Overflow s c)) = (s ≡ step) × (failing ≡ Some c)
-IsRefusal failing cells step (Some (Crowded s n)) = (s ≡ step) × (n ≡ cells) × (failing ≡ None) × (MOST_CELLS < cells)
+IsRefusal failing cells step (Some (Crowded s n)) = (s ≡ step) × (n ≡ cells) × (failing ≡ None)
+    × (MOST_CELLS < cells)
 IsRefusal failing cells step (Some NoMemory) = ⊥

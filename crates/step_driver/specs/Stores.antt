@@ -41,7 +41,8 @@ pub record AreTrees (k : Cuts) (stores : List TreeLists) : Type 0 where
   pub each : (t : ℕ) → t < k.trees → IsTreeOf k (store_of stores t)
 
 -- the store of each of so many trees is changed as asked
-pub record ChangesEach (R : ℕ → TreeLists → TreeLists → Type 0) (trees : ℕ) (before after : List TreeLists) : Type 0 where
+pub record ChangesEach (R : ℕ → TreeLists → TreeLists → Type 0) (trees : ℕ)
+    (before after : List TreeLists) : Type 0 where
   pub count : length after ≡ trees
   pub changed : (t : ℕ) → t < trees → R t (store_of before t) (store_of after t)
 
@@ -51,11 +52,14 @@ pub record AllMerged (phase : Phase) (k : Cuts) (before after : List TreeLists) 
   pub each : (t : ℕ) → t < k.trees → HasMerged phase k (store_of before) (store_of after) t
 
 -- the store of each tree has the lists that a sweep of its tree over a grid reads, all in one direction
-pub record AllHaveLists (k : Cuts) (dir : Direction) (g : Spacetree) (stores : List TreeLists) : Type 0 where
+pub record AllHaveLists (k : Cuts) (dir : Direction) (g : Spacetree)
+    (stores : List TreeLists) : Type 0 where
   pub count : length stores ≡ k.trees
-  pub each : (t : ℕ) → t < k.trees → HasLists (plain_plan k.depth (range_of k t) dir g) t (store_of stores t)
+  pub each : (t : ℕ) → t < k.trees
+      → HasLists (plain_plan k.depth (range_of k t) dir g) t (store_of stores t)
 
 -- the store of each tree stands for a grid and a field, all to be read in one direction
-pub record AllStandFor (k : Cuts) (dir : Direction) (g : Spacetree) (f : States) (stores : List TreeLists) : Type 0 where
+pub record AllStandFor (k : Cuts) (dir : Direction) (g : Spacetree) (f : States)
+    (stores : List TreeLists) : Type 0 where
   pub count : length stores ≡ k.trees
   pub each : (t : ℕ) → t < k.trees → StandsFor k.depth (range_of k t) t dir g f (store_of stores t)

@@ -27,7 +27,8 @@ pub record Seen (S : Type 0) : Type 0 where
 
 -- The trees of some cuts, at most 64, are at a grid and a field whose states have so many values: the store of each tree stands for them, in what lies in it and in what
 -- each slot says, and all are read in one direction; the tale of each is that of its tree's notes; and the grid has so many cells, at most 200,000.
-pub record AreAt (parts : ℕ) (k : Cuts) (stores : List TreeLists) (notes : List Note) (cells : ℕ) (g : Spacetree) (f : States) : Type 0 where
+pub record AreAt (parts : ℕ) (k : Cuts) (stores : List TreeLists) (notes : List Note) (cells : ℕ)
+    (g : Spacetree) (f : States) : Type 0 where
   pub few : k.trees ≤ 64
   pub fits : IsCutGrid k g
   pub field : IsFieldOn parts g f
@@ -38,15 +39,18 @@ pub record AreAt (parts : ℕ) (k : Cuts) (stores : List TreeLists) (notes : Lis
   pub room : cells_of g ≤ MOST_CELLS
 
 -- a live world is at a grid and a field after so many steps
-pub record IsAt {S : Type 0} (parts : ℕ) (w : Seen S) (g : Spacetree) (f : States) (step : ℕ) : Type 0 where
+pub record IsAt {S : Type 0} (parts : ℕ) (w : Seen S) (g : Spacetree) (f : States)
+    (step : ℕ) : Type 0 where
   pub live : w.live ≡ true
   pub step_is : w.step ≡ step
   pub trees : AreAt parts (cuts_of w.keys) w.stores w.notes w.cells g f
 
 -- a world is at one grid and one field, after one number of steps
 abbrev pub WorldIsAtOne : Type 0 → Type 0
-WorldIsAtOne S = (parts : ℕ) (w : Seen S) (g h : Spacetree) (f e : States) (m n : ℕ) → IsAt parts w g f m → IsAt parts w h e n → (g ≡ h) × (f ≡ e) × (m ≡ n)
+WorldIsAtOne S = (parts : ℕ) (w : Seen S) (g h : Spacetree) (f e : States) (m n : ℕ)
+    → IsAt parts w g f m → IsAt parts w h e n → (g ≡ h) × (f ≡ e) × (m ≡ n)
 
 -- the copies of its trees stand for that grid and field
 abbrev pub WorldStands : Type 0 → Type 0
-WorldStands S = (parts : ℕ) (w : Seen S) (g : Spacetree) (f : States) (step : ℕ) → IsAt parts w g f step → StandFor (cuts_of w.keys) (copies_of (store_of w.stores)) g f
+WorldStands S = (parts : ℕ) (w : Seen S) (g : Spacetree) (f : States) (step : ℕ)
+    → IsAt parts w g f step → StandFor (cuts_of w.keys) (copies_of (store_of w.stores)) g f

@@ -42,7 +42,8 @@ fn adapt_each<N: NewGrid + Send + Sync, R: Threads + Sync>(
     step: u32,
 ) -> Result<Vec<Result<Swept<()>, AllocError>>, AllocError>
     requires { EachIs (CanTake (cuts_of keys.now) N.grid) stores.items }
-    ensures { IfOk result (λ given. EachMayGive (Adapts (cuts_of keys.now) N.grid step) stores.items given.items) }
+    ensures { IfOk result
+        (λ given. EachMayGive (Adapts (cuts_of keys.now) N.grid step) stores.items given.items) }
 {
     thread::map_vec(
         rt,
@@ -65,8 +66,18 @@ pub(crate) fn adapt_all<N: NewGrid + Send + Sync, R: Threads + Sync>(
     step: u32,
 ) -> Result<Vec<TreeStore>, AllocError>
     requires { AllCanTake (cuts_of keys.now) N.grid stores.items }
-    ensures adapted { IfOk result (λ after. (dir : Direction) (w : Change) → w.new ≡ N.grid → AllCanAdapt (cuts_of keys.now) dir w stores.items → AreAdapted (cuts_of keys.now) dir w step stores.items after.items notes.old.items notes.new.items) }
-    ensures stopped { OnErr result ((dir : Direction) (w : Change) → w.new ≡ N.grid → AllCanAdapt (cuts_of keys.now) dir w stores.items → AddsFirst notes.old.items notes.new.items (by_trees (cuts_of keys.now).trees (note_adapted (sizes_of (cuts_of keys.now)) step w.old w.new))) }
+    ensures adapted { IfOk result
+        (λ after. (dir : Direction) (w : Change) → w.new ≡ N.grid
+        → AllCanAdapt (cuts_of keys.now) dir w stores.items
+        → AreAdapted
+        (cuts_of keys.now) dir w step stores.items after.items notes.old.items
+        notes.new.items) }
+    ensures stopped { OnErr result
+        ((dir : Direction) (w : Change) → w.new ≡ N.grid
+        → AllCanAdapt (cuts_of keys.now) dir w stores.items
+        → AddsFirst notes.old.items notes.new.items
+        (by_trees (cuts_of keys.now).trees
+        (note_adapted (sizes_of (cuts_of keys.now)) step w.old w.new))) }
 {
     let swept = all_of(alloc, adapt_each::<N, R>(rt, stores, keys, step)?)?;
     for tree in &swept {

@@ -6,7 +6,7 @@ ghost use Rattle.peano_curve.specs.declared.order.Direction.{Direction};
 ghost use Rattle.curve_cuts.specs.Keys.{cuts_of};
 ghost use Rattle.vertex_stacks.specs.declared.kind.Kind.TheVariants.{Primary};
 ghost use Rattle.step_world.specs.Notes.{note_over, by_trees};
-ghost use Rattle.step_sweeps.specs.Kernels.{least_of};
+ghost use Rattle.step_sweeps.specs.Kernels.{kernel_by, least_of};
 ghost use Rattle.step_sweeps.specs.Sweeps.{CanStep};
 ghost use Rattle.step_driver.specs.Gives.{EachIs, EachMayGive};
 ghost use Rattle.step_driver.specs.Tasking.{AreTasksOf};
@@ -66,7 +66,9 @@ fn compute_one<'p, S: Solver>(
     requires store { CanStep (cuts_of keys.now) (S.parts_of solver.now) store }
     requires tasks { tasks.solver ≡ solver.now }
     ensures tasks { IfOk result (λ r. r.0.solver ≡ solver.now) }
-    ensures computed { IfOk result (λ r. Computes (record { parts = S.parts_of solver.now; updated = S.updated solver.now; marked = S.marked solver.now }) (cuts_of keys.now) step store r.1) }
+    ensures computed { IfOk result
+        (λ r. Computes (kernel_by S.parts_of S.updated S.marked solver.now)
+        (cuts_of keys.now) step store r.1) }
 {
     let (tasks, swept) = primary_tree(&mut store, solver, keys, step, tasks);
     let (note, found) = swept?;
@@ -91,7 +93,9 @@ fn jobs_with<'p, S: Solver>(
     keys: &'p Keys,
     step: u32,
 ) -> Result<Vec<Job<'p, S>>, AllocError>
-    ensures { IfOk result (λ jobs. map seen_job jobs.items ≡ map (job_for solver.now keys.now step) trees.entry.items) }
+    ensures { IfOk result
+        (λ jobs. map seen_job jobs.items
+        ≡ map (job_for solver.now keys.now step) trees.entry.items) }
 {
     let mut jobs = Vec::new(alloc);
     for (store, tasks) in trees {
@@ -112,14 +116,19 @@ fn compute_jobs<'p, S: Solver, R: Threads + Sync>(
     jobs: Vec<Job<'p, S>>,
 ) -> Result<Vec<Result<(TreeTasks<'p, S>, Swept<Tally>), AllocError>>, AllocError>
     requires { EachIs (λ x. CanCompute (S.parts_of x.solver.now) (seen_job x)) jobs.items }
-    ensures { IfOk result (λ given. EachMayGive (λ x. ComputesJob (record { parts = S.parts_of x.solver.now; updated = S.updated x.solver.now; marked = S.marked x.solver.now }) (seen_job x)) jobs.entry.items given.items) }
+    ensures { IfOk result
+        (λ given. EachMayGive
+        (λ x. ComputesJob (kernel_by S.parts_of S.updated S.marked x.solver.now)
+        (seen_job x)) jobs.entry.items given.items) }
 {
     thread::map_vec(
         rt,
         jobs,
         &|job: Job<S>| -> Result<(TreeTasks<S>, Swept<Tally>), AllocError>
             requires { CanCompute (S.parts_of job.solver.now) (seen_job job) }
-            ensures { IfOk result (ComputesJob (record { parts = S.parts_of job.entry.solver.now; updated = S.updated job.entry.solver.now; marked = S.marked job.entry.solver.now }) (seen_job job.entry)) }
+            ensures { IfOk result
+                (ComputesJob (kernel_by S.parts_of S.updated S.marked job.entry.solver.now)
+                (seen_job job.entry)) }
         { compute_one(job.store, job.tasks, job.solver, job.keys, job.step) },
     )
 }
@@ -133,8 +142,12 @@ fn compute_each<'p, S: Solver, R: Threads + Sync>(
     keys: &'p Keys,
     step: u32,
 ) -> Result<Vec<Result<(TreeTasks<'p, S>, Swept<Tally>), AllocError>>, AllocError>
-    requires { EachIs (λ x. CanCompute (S.parts_of solver.now) (job_for solver.now keys.now step x)) trees.items }
-    ensures { IfOk result (λ given. EachMayGive (λ x. ComputesJob (record { parts = S.parts_of solver.now; updated = S.updated solver.now; marked = S.marked solver.now }) (job_for solver.now keys.now step x)) trees.entry.items given.items) }
+    requires { EachIs
+        (λ x. CanCompute (S.parts_of solver.now) (job_for solver.now keys.now step x)) trees.items }
+    ensures { IfOk result
+        (λ given. EachMayGive
+        (λ x. ComputesJob (kernel_by S.parts_of S.updated S.marked solver.now)
+        (job_for solver.now keys.now step x)) trees.entry.items given.items) }
 {
     compute_jobs(rt, jobs_with(alloc, trees, solver, keys, step)?)
 }
@@ -151,11 +164,23 @@ pub(crate) fn compute_all<'p, S: Solver, R: Threads + Sync>(
     keys: &'p Keys,
     step: u32,
 ) -> Result<(Computed, Vec<TreeTasks<'p, S>>), AllocError>
-    requires tasks { (length tasks.items ≡ length stores.items) × AreTasksOf solver.now tasks.items }
+    requires tasks { (length tasks.items ≡ length stores.items)
+        × AreTasksOf solver.now tasks.items }
     requires stores { AllCanStep (cuts_of keys.now) (S.parts_of solver.now) stores.items }
-    ensures tasks { IfOk result (λ r. (length r.1.items ≡ length stores.items) × AreTasksOf solver.now r.1.items) }
-    ensures computed { IfOk result (λ r. (dir : Direction) (g : Spacetree) (f : States) → AllStandOn (cuts_of keys.now) (S.parts_of solver.now) dir g f stores.items → AreComputed (record { parts = S.parts_of solver.now; updated = S.updated solver.now; marked = S.marked solver.now }) (cuts_of keys.now) dir g f step stores.items r.0.stores.items notes.old.items notes.new.items r.0.failing) }
-    ensures stopped { OnErr result ((dir : Direction) (g : Spacetree) (f : States) → AllStandOn (cuts_of keys.now) (S.parts_of solver.now) dir g f stores.items → AddsFirst notes.old.items notes.new.items (by_trees (cuts_of keys.now).trees (note_over (sizes_of (cuts_of keys.now)) step Primary g))) }
+    ensures tasks { IfOk result
+        (λ r. (length r.1.items ≡ length stores.items) × AreTasksOf solver.now r.1.items) }
+    ensures computed { IfOk result
+        (λ r. (dir : Direction) (g : Spacetree) (f : States)
+        → AllStandOn (cuts_of keys.now) (S.parts_of solver.now) dir g f stores.items
+        → AreComputed (kernel_by S.parts_of S.updated S.marked solver.now)
+        (cuts_of keys.now) dir g f step stores.items r.0.stores.items notes.old.items
+        notes.new.items r.0.failing) }
+    ensures stopped { OnErr result
+        ((dir : Direction) (g : Spacetree) (f : States)
+        → AllStandOn (cuts_of keys.now) (S.parts_of solver.now) dir g f stores.items
+        → AddsFirst notes.old.items notes.new.items
+        (by_trees (cuts_of keys.now).trees
+        (note_over (sizes_of (cuts_of keys.now)) step Primary g))) }
 {
     let trees = paired(alloc, stores, tasks)?;
     let done = all_of(alloc, compute_each(rt, alloc, trees, solver, keys, step)?)?;

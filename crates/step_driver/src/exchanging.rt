@@ -24,7 +24,8 @@ fn collect_each<R: Threads + Sync>(
     keys: &Keys,
 ) -> Result<Vec<Result<Outbox, AllocError>>, AllocError>
     requires { EachIs (IsTreeOf (cuts_of keys.now)) stores.now }
-    ensures { IfOk result (λ given. EachMayGive (IsCollected (cuts_of keys.now)) stores.now given.items) }
+    ensures { IfOk result
+        (λ given. EachMayGive (IsCollected (cuts_of keys.now)) stores.now given.items) }
 {
     thread::map_indices(
         rt,
@@ -32,7 +33,8 @@ fn collect_each<R: Threads + Sync>(
         stores.len(),
         &|t: usize| -> Result<Outbox, AllocError>
             requires { (t < length stores.now) × EachIs (IsTreeOf (cuts_of keys.now)) stores.now }
-            ensures { IfOk result (IsCollected (cuts_of keys.entry.now) (store_of stores.entry.now t)) }
+            ensures { IfOk result
+                (IsCollected (cuts_of keys.entry.now) (store_of stores.entry.now t)) }
         { collect(alloc, &stores[t], keys) },
     )
 }
@@ -62,14 +64,17 @@ fn merge_each<R: Threads + Sync>(
     phase: Phase,
 ) -> Result<Vec<Result<TreeStore, AllocError>>, AllocError>
     requires { EachIs (IsTreeOf (cuts_of keys.now)) stores.items }
-    ensures { IfOk result (λ given. EachMayGive (MergesBoxes phase (cuts_of keys.now) boxes.now) stores.items given.items) }
+    ensures { IfOk result
+        (λ given. EachMayGive
+        (MergesBoxes phase (cuts_of keys.now) boxes.now) stores.items given.items) }
 {
     thread::map_vec(
         rt,
         stores,
         &|store: TreeStore| -> Result<TreeStore, AllocError>
             requires { IsTreeOf (cuts_of keys.now) store }
-            ensures { IfOk result (MergesBoxes phase (cuts_of keys.entry.now) boxes.entry.now store) }
+            ensures { IfOk result
+                (MergesBoxes phase (cuts_of keys.entry.now) boxes.entry.now store) }
         { merge_one(alloc, store, keys, boxes, phase) },
     )
 }

@@ -15,6 +15,7 @@ mod refusing;
 mod showing;
 mod size;
 mod stepping;
+mod summing;
 mod tasking;
 mod working;
 mod world;

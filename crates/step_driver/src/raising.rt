@@ -1,8 +1,8 @@
 //! The trees of a world as it starts: raised one beside another, then exchanged.
-ghost use Rattle.std.specs.Prelude.{◌≡◌, ◌<◌, IfOk};
+ghost use Rattle.std.specs.Prelude.{◌≡◌, ◌<◌, ℕ, IfOk};
 ghost use Rattle.curve_cuts.specs.Cuts.{IsCutGrid};
 ghost use Rattle.curve_cuts.specs.Keys.{cuts_of};
-ghost use Rattle.spacetree.specs.Fields.{HasLeaves};
+ghost use Rattle.spacetree.specs.Fields.{IsFieldOn};
 ghost use Rattle.step_driver.specs.Starts.{IsRaisedWith, MayBeRaised, AreRaised, AreStarted};
 
 use crate::beside::{Swept, all_of, stores_of};
@@ -34,6 +34,7 @@ fn raise_one(
     tree: u32,
 ) -> Result<Swept<()>, AllocError>
     requires grid { IsCutGrid (cuts_of keys.now) grid.now }
+    requires field { (parts : ℕ) × IsFieldOn parts grid.now field.now }
     requires tree { tree < (cuts_of keys.now).trees }
     ensures { IfOk result (IsRaisedWith (cuts_of keys.now) grid.now field.now tree) }
 {
@@ -54,7 +55,8 @@ fn raise_each<R: Threads + Sync>(
     field: &Field,
     keys: &Keys,
 ) -> Result<Vec<Result<Swept<()>, AllocError>>, AllocError>
-    requires { IsCutGrid (cuts_of keys.now) grid.now }
+    requires grid { IsCutGrid (cuts_of keys.now) grid.now }
+    requires field { (parts : ℕ) × IsFieldOn parts grid.now field.now }
     ensures { IfOk result (λ given. MayBeRaised (cuts_of keys.now) grid.now field.now given.items) }
 {
     thread::map_indices(
@@ -62,8 +64,11 @@ fn raise_each<R: Threads + Sync>(
         alloc,
         keys.trees() as usize,
         &|t: usize| -> Result<Swept<()>, AllocError>
-            requires { IsCutGrid (cuts_of keys.now) grid.now × (t < (cuts_of keys.now).trees) × (t < 4294967296) }
-            ensures { IfOk result (IsRaisedWith (cuts_of keys.entry.now) grid.entry.now field.entry.now t) }
+            requires { IsCutGrid (cuts_of keys.now) grid.now
+                × ((parts : ℕ) × IsFieldOn parts grid.now field.now)
+                × (t < (cuts_of keys.now).trees) × (t < 4294967296) }
+            ensures { IfOk result
+                (IsRaisedWith (cuts_of keys.entry.now) grid.entry.now field.entry.now t) }
         { raise_one(alloc, grid, field, keys, t as u32) },
     )
 }
@@ -76,8 +81,11 @@ fn raise_all<R: Threads + Sync>(
     field: &Field,
     keys: &Keys,
 ) -> Result<Forest, AllocError>
-    requires { IsCutGrid (cuts_of keys.now) grid.now }
-    ensures { IfOk result (λ forest. AreRaised (cuts_of keys.now) grid.now field.now (cuts_of keys.now).trees forest.stores.items forest.notes.items) }
+    requires grid { IsCutGrid (cuts_of keys.now) grid.now }
+    requires field { (parts : ℕ) × IsFieldOn parts grid.now field.now }
+    ensures { IfOk result
+        (λ forest. AreRaised (cuts_of keys.now) grid.now field.now
+        (cuts_of keys.now).trees forest.stores.items forest.notes.items) }
 {
     let swept = all_of(alloc, raise_each(rt, alloc, grid, field, keys)?)?;
     let mut notes = Vec::new(alloc);
@@ -97,8 +105,10 @@ pub(crate) fn plant<R: Threads + Sync>(
     keys: &Keys,
 ) -> Result<Forest, AllocError>
     requires grid { IsCutGrid (cuts_of keys.now) grid.now }
-    requires field { HasLeaves grid.now field.now }
-    ensures { IfOk result (λ forest. AreStarted (cuts_of keys.now) grid.now field.now forest.stores.items forest.notes.items) }
+    requires field { (parts : ℕ) × IsFieldOn parts grid.now field.now }
+    ensures { IfOk result
+        (λ forest. AreStarted
+        (cuts_of keys.now) grid.now field.now forest.stores.items forest.notes.items) }
 {
     tale_of_notes_grows();
     let raised = raise_all(rt, alloc, grid, field, keys)?;

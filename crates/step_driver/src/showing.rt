@@ -64,7 +64,8 @@ fn show_each<R: Threads + Sync>(
     step: u32,
 ) -> Result<Vec<Result<Swept<ShownTree>, AllocError>>, AllocError>
     requires { EachIs (CanShow (cuts_of keys.now)) stores.items }
-    ensures { IfOk result (λ given. EachMayGive (ShowsTree (cuts_of keys.now) step) stores.items given.items) }
+    ensures { IfOk result
+        (λ given. EachMayGive (ShowsTree (cuts_of keys.now) step) stores.items given.items) }
 {
     thread::map_vec(
         rt,
@@ -95,9 +96,19 @@ pub(crate) fn show_all<R: Threads + Sync>(
     step: u32,
 ) -> Result<ShownTrees, AllocError>
     requires { (parts : ℕ) × AllCanStep (cuts_of keys.now) parts stores.items }
-    ensures shown { IfOk result (λ r. (parts : ℕ) (dir : Direction) (g : Spacetree) (f : States) → AllStandOn (cuts_of keys.now) parts dir g f stores.items → AreShown (cuts_of keys.now) parts dir g f step stores.items r.stores.items notes.old.items notes.new.items r.shown) }
+    ensures shown { IfOk result
+        (λ r. (parts : ℕ) (dir : Direction) (g : Spacetree) (f : States)
+        → AllStandOn (cuts_of keys.now) parts dir g f stores.items
+        → AreShown
+        (cuts_of keys.now) parts dir g f step stores.items r.stores.items notes.old.items
+        notes.new.items r.shown) }
     ensures step { IfOk result (λ r. r.shown.step ≡ step) }
-    ensures stopped { OnErr result ((parts : ℕ) (dir : Direction) (g : Spacetree) (f : States) → AllStandOn (cuts_of keys.now) parts dir g f stores.items → AddsFirst notes.old.items notes.new.items (by_trees (cuts_of keys.now).trees (note_over (sizes_of (cuts_of keys.now)) step kind.Show g))) }
+    ensures stopped { OnErr result
+        ((parts : ℕ) (dir : Direction) (g : Spacetree) (f : States)
+        → AllStandOn (cuts_of keys.now) parts dir g f stores.items
+        → AddsFirst notes.old.items notes.new.items
+        (by_trees (cuts_of keys.now).trees
+        (note_over (sizes_of (cuts_of keys.now)) step kind.Show g))) }
 {
     let swept = all_of(alloc, show_each(rt, alloc, stores, keys, step)?)?;
     let mut rows = Vec::new(alloc);
@@ -127,9 +138,20 @@ pub(crate) fn show_trees<R: Threads + Sync>(
     keys: &Keys,
     step: u32,
 ) -> Result<ShownTrees, AllocError>
-    requires { (parts : ℕ) × (cells : ℕ) × (g : Spacetree) × (f : States) × AreAt parts (cuts_of keys.now) stores.items notes.old.items cells g f }
-    ensures shown { IfOk result (λ r. (parts cells : ℕ) (g : Spacetree) (f : States) → AreAt parts (cuts_of keys.now) stores.items notes.old.items cells g f → ShowTrees parts (cuts_of keys.now) g f step cells r.stores.items notes.old.items notes.new.items r.shown) }
-    ensures stopped { OnErr result ((parts cells : ℕ) (g : Spacetree) (f : States) → AreAt parts (cuts_of keys.now) stores.items notes.old.items cells g f → AddsFirst notes.old.items notes.new.items (by_trees (cuts_of keys.now).trees (note_over (sizes_of (cuts_of keys.now)) step kind.Show g))) }
+    requires { (parts : ℕ) × (cells : ℕ) × (g : Spacetree) × (f : States)
+        × AreAt parts (cuts_of keys.now) stores.items notes.old.items cells g f }
+    ensures shown { IfOk result
+        (λ r. (parts cells : ℕ) (g : Spacetree) (f : States)
+        → AreAt parts (cuts_of keys.now) stores.items notes.old.items cells g f
+        → ShowTrees parts
+        (cuts_of keys.now) g f step cells r.stores.items notes.old.items notes.new.items
+        r.shown) }
+    ensures stopped { OnErr result
+        ((parts cells : ℕ) (g : Spacetree) (f : States)
+        → AreAt parts (cuts_of keys.now) stores.items notes.old.items cells g f
+        → AddsFirst notes.old.items notes.new.items
+        (by_trees (cuts_of keys.now).trees
+        (note_over (sizes_of (cuts_of keys.now)) step kind.Show g))) }
 {
     tale_of_notes_grows();
     let mut trees = show_all(rt, alloc, stores, notes, keys, step)?;

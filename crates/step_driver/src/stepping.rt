@@ -10,11 +10,13 @@ ghost use Rattle.step_driver.specs.Notes.{sizes_of, AddsFirst};
 ghost use Rattle.step_driver.specs.Adapting.{AllCanAdapt, AllCanTake};
 ghost use Rattle.step_driver.specs.Worlds.{AreAt};
 ghost use Rattle.step_driver.specs.Stepping.{IsAdaptedStep, IsStepTaken};
+ghost use Rattle.step_sweeps.specs.Kernels.{kernel_by};
 
 use crate::adapting::adapt_all;
 use crate::exchanging::exchange;
 use crate::refusing::refusal;
 use crate::size::size_after;
+use crate::summing::settle;
 use crate::working::compute;
 use adapt_sweep::NewGrid;
 use curve_cuts::Keys;
@@ -46,8 +48,18 @@ fn adapt<N: NewGrid + Send + Sync, R: Threads + Sync>(
     step: u32,
 ) -> Result<Vec<TreeStore>, AllocError>
     requires { AllCanTake (cuts_of keys.now) N.grid stores.items }
-    ensures adapted { IfOk result (λ after. (dir : Direction) (w : Change) → w.new ≡ N.grid → AllCanAdapt (cuts_of keys.now) dir w stores.items → IsAdaptedStep (cuts_of keys.now) dir w step stores.items after.items notes.old.items notes.new.items) }
-    ensures stopped { OnErr result ((dir : Direction) (w : Change) → w.new ≡ N.grid → AllCanAdapt (cuts_of keys.now) dir w stores.items → AddsFirst notes.old.items notes.new.items (by_trees (cuts_of keys.now).trees (note_adapted (sizes_of (cuts_of keys.now)) step w.old w.new))) }
+    ensures adapted { IfOk result
+        (λ after. (dir : Direction) (w : Change) → w.new ≡ N.grid
+        → AllCanAdapt (cuts_of keys.now) dir w stores.items
+        → IsAdaptedStep
+        (cuts_of keys.now) dir w step stores.items after.items notes.old.items
+        notes.new.items) }
+    ensures stopped { OnErr result
+        ((dir : Direction) (w : Change) → w.new ≡ N.grid
+        → AllCanAdapt (cuts_of keys.now) dir w stores.items
+        → AddsFirst notes.old.items notes.new.items
+        (by_trees (cuts_of keys.now).trees
+        (note_adapted (sizes_of (cuts_of keys.now)) step w.old w.new))) }
 {
     let stores = adapt_all::<N, R>(rt, alloc, stores, notes, keys, step)?;
     exchange(rt, alloc, stores, keys, Phase::Third)
@@ -67,10 +79,14 @@ pub(crate) fn take_step<S: Solver, R: Threads + Sync, G: Gate>(
     workers: u32,
     gate: &G,
 ) -> Result<Stepped, EvalFault>
-    requires at { (g : Spacetree) × (f : States) × AreAt (S.parts_of solver.now) (cuts_of keys.now) stores.items notes.old.items cells g f }
+    requires at { (g : Spacetree) × (f : States)
+        × AreAt (S.parts_of solver.now) (cuts_of keys.now) stores.items notes.old.items cells g f }
     requires deepest { S.deepest_of solver.now ≤ keys.now.depth }
     requires workers { workers < 2 ^ 32 - 1 }
-    ensures { (g : Spacetree) (f : States) → AreAt (S.parts_of solver.now) (cuts_of keys.now) stores.items notes.old.items cells g f → IsStepTaken (record { parts = S.parts_of solver.now; updated = S.updated solver.now; marked = S.marked solver.now }) (S.adapting solver.now) (cuts_of keys.now) g f step notes.old.items notes.new.items result }
+    ensures { (g : Spacetree) (f : States)
+        → AreAt (S.parts_of solver.now) (cuts_of keys.now) stores.items notes.old.items cells g f
+        → IsStepTaken (kernel_by S.parts_of S.updated S.marked solver.now) (S.adapting solver.now)
+        (cuts_of keys.now) g f step notes.old.items notes.new.items result }
 {
     tale_of_notes_grows();
     let worked = compute(rt, alloc, stores, notes, solver, keys, step, workers, gate)?;
@@ -78,12 +94,13 @@ pub(crate) fn take_step<S: Solver, R: Threads + Sync, G: Gate>(
     if let Some(fault) = refusal(worked.found.failing, cells, step) {
         return Err(fault);
     }
+    let settled = settle(rt, alloc, worked.stores, worked.partials.as_slice(), keys)?;
     if !solver.adapts() {
         return Ok(Stepped {
-            stores: worked.stores,
+            stores: settled,
             cells,
         });
     }
-    let stores = adapt::<Brand, R>(rt, alloc, worked.stores, notes, keys, step)?;
+    let stores = adapt::<Brand, R>(rt, alloc, settled, notes, keys, step)?;
     Ok(Stepped { stores, cells })
 }

@@ -27,7 +27,8 @@ pub(crate) fn desk_sizes(
     workers: u32,
 ) -> Result<Vec<u32>, AllocError>
     ensures count { IfOk result (λ sizes. length sizes.items ≡ length stores.now) }
-    ensures small { IfOk result (λ sizes. (k : ℕ) → k < length stores.now → slice_index sizes.items k < 2 ^ 32 - 1) }
+    ensures small { IfOk result
+        (λ sizes. (k : ℕ) → k < length stores.now → slice_index sizes.items k < 2 ^ 32 - 1) }
 {
     let mut sizes = Vec::new(alloc);
     for store in stores {

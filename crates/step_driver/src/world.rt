@@ -11,6 +11,7 @@ ghost use Rattle.step_driver.specs.LeafCounts.{IsLeafCount, IsRowCount};
 ghost use Rattle.step_driver.specs.Starts.{AreFirstKeys};
 ghost use Rattle.step_driver.specs.Advances.{IsAdvanced};
 ghost use Rattle.step_driver.specs.Showing.{ShowsWorld};
+ghost use Rattle.step_sweeps.specs.Kernels.{kernel_by};
 
 use crate::keys::first_keys;
 use crate::raising::{Forest, plant};
@@ -59,7 +60,11 @@ impl<S: Solver> Model for World<S> {
       live = w.live;
     } };
 
-    ghost invariant = { λ w. (S.deepest_of w.solver ≤ w.keys.depth) × (w.live ≡ true → (g : Spacetree) × (f : States) × AreAt (S.parts_of w.solver) (cuts_of w.keys) w.forest.stores.items w.forest.notes.items w.cells g f) };
+    ghost invariant = { λ w. (S.deepest_of w.solver ≤ w.keys.depth)
+        × (w.live ≡ true
+        → (g : Spacetree) × (f : States)
+        × AreAt (S.parts_of w.solver)
+        (cuts_of w.keys) w.forest.stores.items w.forest.notes.items w.cells g f) };
 }
 
 impl<S: Solver> World<S> {
@@ -83,7 +88,9 @@ impl<S: Solver> World<S> {
         ensures at { IfOk result (λ world. IsAt (S.parts_of solver) world grid.now field.now 0) }
         ensures solver { IfOk result (λ world. world.solver ≡ solver) }
         ensures keys { IfOk result (λ world. AreFirstKeys depth grid.now trees world.keys) }
-        ensures notes { IfOk result (λ world. world.notes ≡ by_trees trees (note_raised (sizes_of (cuts_of world.keys)) grid.now)) }
+        ensures notes { IfOk result
+            (λ world. world.notes
+            ≡ by_trees trees (note_raised (sizes_of (cuts_of world.keys)) 0 grid.now)) }
     {
         let keys = first_keys(alloc, depth, grid, trees)?;
         let forest = plant(rt, alloc, grid, field, &keys)?;
@@ -113,7 +120,10 @@ impl<S: Solver> World<S> {
         requires workers { workers < 2 ^ 32 - 1 }
         ensures solver { self.new.solver ≡ self.old.solver }
         ensures keys { self.new.keys ≡ self.old.keys }
-        ensures advanced { (g : Spacetree) (f : States) → IsAt (S.parts_of self.old.solver) self.old g f self.old.step → IsAdvanced (record { parts = S.parts_of self.old.solver; updated = S.updated self.old.solver; marked = S.marked self.old.solver }) (S.adapting self.old.solver) g f self.old self.new result }
+        ensures advanced { (g : Spacetree) (f : States)
+            → IsAt (S.parts_of self.old.solver) self.old g f self.old.step
+            → IsAdvanced (kernel_by S.parts_of S.updated S.marked self.old.solver)
+            (S.adapting self.old.solver) g f self.old self.new result }
     {
         let step = self.step + 1;
         let stores = mem::replace(&mut self.forest.stores, Vec::new(alloc));
@@ -149,7 +159,9 @@ impl<S: Solver> World<S> {
         requires { self.old.live ≡ true }
         ensures solver { self.new.solver ≡ self.old.solver }
         ensures keys { self.new.keys ≡ self.old.keys }
-        ensures shown { (g : Spacetree) (f : States) → IsAt (S.parts_of self.old.solver) self.old g f self.old.step → ShowsWorld (S.parts_of self.old.solver) g f self.old self.new result }
+        ensures shown { (g : Spacetree) (f : States)
+            → IsAt (S.parts_of self.old.solver) self.old g f self.old.step
+            → ShowsWorld (S.parts_of self.old.solver) g f self.old self.new result }
     {
         let stores = mem::replace(&mut self.forest.stores, Vec::new(alloc));
         let notes = &mut self.forest.notes;

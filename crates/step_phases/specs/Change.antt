@@ -23,7 +23,8 @@ carrier old c = if has_cell old c then c else parent_of c
 -- what a change owes to the exchanges and sweeps, and nothing else: the new grid follows the marks, and each of its cells has the new value of the cell that it comes from
 pub record IsChange (w : Change) : Type 0 where
   pub grid : IsNextGrid w.old w.mark w.new
-  pub values : (c : CellKey) → IsCell w.old.dim c → has_cell w.new c ≡ true → w.next (carrier w.old c) ≡ Some (w.last c)
+  pub values : (c : CellKey) → IsCell w.old.dim c → has_cell w.new c ≡ true
+      → w.next (carrier w.old c) ≡ Some (w.last c)
 
 -- a state is the one that is there, where one is
 abbrev pub Gives : Option State → State → Type 0

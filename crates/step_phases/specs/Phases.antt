@@ -22,12 +22,14 @@ pub record AtRest (g : Spacetree) (f : CellKey → State) (c : CellKey) (s : Slo
   pub stay : s.intent ≡ Stay
 
 -- the status and the value of each of the tree's own cells
-pub record HasOwn (k : Cuts) (g : Spacetree) (f : CellKey → State) (t : ℕ) (c : CellKey) (s : Slot) : Type 0 where
+pub record HasOwn (k : Cuts) (g : Spacetree) (f : CellKey → State) (t : ℕ) (c : CellKey)
+    (s : Slot) : Type 0 where
   pub status : Owns k t c → s.status ≡ status_of (is_refined g c)
   pub value : Owns k t c → s.value ≡ f c
 
 -- after a raising sweep: the status of each cell, whoever owns it, and the values of the tree's own cells
-pub record AfterRaise (k : Cuts) (g : Spacetree) (f : CellKey → State) (t : ℕ) (c : CellKey) (s : Slot) : Type 0 where
+pub record AfterRaise (k : Cuts) (g : Spacetree) (f : CellKey → State) (t : ℕ) (c : CellKey)
+    (s : Slot) : Type 0 where
   pub status : s.status ≡ status_of (is_refined g c)
   pub own : HasOwn k g f t c s
 

@@ -21,12 +21,14 @@ abbrev pub Stores : Type 0
 Stores = ℕ → Store
 
 -- a record of a vertex: slots outside the domain say so, those of cells say what is asked, and slots of no cell intend nothing
-pub record Says (dim : Dim) (v : VertexKey) (P : CellKey → Slot → Type 0) (r : VertexRecord) : Type 0 where
+pub record Says (dim : Dim) (v : VertexKey) (P : CellKey → Slot → Type 0)
+    (r : VertexRecord) : Type 0 where
   pub key : r.key ≡ v
   pub eight : length r.slots ≡ 8
   pub outside : SaysOutside dim r
   pub inside : SaysOfCells dim r P
-  pub idle : (n : ℕ) → n < corners dim → adjacent_of dim r.key n ≡ None → (slot_at r n).intent ≡ Stay
+  pub idle : (n : ℕ) → n < corners dim → adjacent_of dim r.key n ≡ None
+      → (slot_at r n).intent ≡ Stay
   pub unused : (n : ℕ) → corners dim ≤ n → n < 8 → (slot_at r n).intent ≡ Stay
 
 -- so in each copy of a tree
@@ -39,4 +41,5 @@ AllSay k g P stores = (t : ℕ) → TreeSays k g t (P t) (stores t)
 
 -- a cell's slot at its home corner, in the copy of a tree
 abbrev pub home_slot : Dim → Store → CellKey → Slot
-home_slot dim store c = slot_at (store (corner_of c (home_of dim c))) (slot_from dim (home_of dim c))
+home_slot dim store c =
+    slot_at (store (corner_of c (home_of dim c))) (slot_from dim (home_of dim c))

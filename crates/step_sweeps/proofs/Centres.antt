@@ -6,14 +6,17 @@ use Rattle.peano_keys.specs.declared.cell.CellKey.{CellKey}
 use Rattle.peano_keys.specs.declared.dim.Dim.{Dim}
 use Rattle.peano_keys.specs.declared.dim.Dim.TheVariants.{Two, Three}
 use Rattle.peano_keys.specs.Dim.{children}
-use Rattle.peano_keys.specs.Cell.{IsCell, at, triple, parent_of, centre_child}
-use Rattle.peano_keys.specs.Grid.{Spacetree, is_refined}
+use Rattle.peano_keys.specs.Cell.{IsCell, at, triple, parent_of, centre_child, centre_digits}
+use Rattle.peano_keys.specs.Grid.{Spacetree, is_refined, has_cell}
 use Rattle.peano_curve.specs.declared.order.Direction.{Direction}
 use Rattle.peano_curve.specs.declared.order.Direction.TheVariants.{Forward, Backward}
 use Rattle.stack_law.specs.Digits.{turned}
 use Rattle.peano_curve.specs.Order.{counted, nth_child, child_along, place_along}
 use Rattle.peano_curve.proofs.Splits.{turned_below}
-use Rattle.spacetree.proofs.Children.{parent_of_child}
+use Rattle.spacetree.proofs.Children.{child_cell, parent_of_child, third_digit}
+use Rattle.spacetree.proofs.Leaves.{child_there}
+use Rattle.spacetree.proofs.Values.{centre_is_digits}
+use Rattle.curve_cuts.specs.Cuts.{Cuts, IsCutGrid}
 use Rattle.sweep_visits.specs.Plan.{SweepPlan, IsSweepPlan, IsOldGrid, dim_of, is_refined_in, is_visited, is_opened}
 use Rattle.sweep_visits.specs.Visits.{Visit, leave, visits_of}
 use Rattle.sweep_visits.specs.Moves.{same_cell}
@@ -36,6 +39,13 @@ centre_tells dim c e = let h = and_both (nat_lt 0 c.level) _ e in record { below
 
 pub centre_told : (dim : Dim) (c : CellKey) → IsCentre dim c → is_centre_in dim c ≡ true
 centre_told dim c is = ap (λ b. b && same_cell c (centre_child dim (parent_of c))) (lt-ltb 0 c.level is.below) ∙ subst (λ q. same_cell c q ≡ true) is.centre (cells_decided.reflexive c)
+
+-- the centre child of a refined cell of a grid
+pub centre_cell : (k : Cuts) (g : Spacetree) (c : CellKey) → IsCutGrid k g → IsCell k.dim c → is_refined g c ≡ true → IsCell k.dim (centre_child k.dim c)
+centre_cell k g c fits cell refined = child_cell k.dim c (centre_digits k.dim) cell (omega (arith, fits.grid.levels c refined, fits.deepest)) (centre_is_digits k.dim)
+
+pub centre_there : (k : Cuts) (g : Spacetree) (c : CellKey) → IsCell k.dim c → is_refined g c ≡ true → has_cell g (centre_child k.dim c) ≡ true
+centre_there k g c cell refined = let d = centre_is_digits k.dim in child_there g c (centre_digits k.dim) cell.shape d.first d.second (third_digit k.dim (centre_digits k.dim) d) refined
 
 counted_below : (dir : Direction) (dim : Dim) (k : ℕ) → k < children dim → counted dir dim k < children dim
 counted_below Forward dim k h = h

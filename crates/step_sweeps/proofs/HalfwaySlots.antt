@@ -30,7 +30,6 @@ use Rattle.step_phases.proofs.Moments.{secondary_begins}
 use Rattle.step_phases.proofs.Sweeps.{intent_between_grids}
 use Rattle.step_calls.specs.Visitors.{SecondaryCall}
 use Rattle.swept_slots.specs.Changes.{ChangesOneCell}
-use Rattle.step_sweeps.specs.declared.centre.Centre.{Centre}
 use Rattle.step_sweeps.specs.Told.{intent_told, told_slot}
 use Rattle.step_sweeps.specs.Secondaries.{leaf_intends, refined_intends}
 use Rattle.step_sweeps.proofs.OwnSlots.{some_same}
@@ -80,12 +79,12 @@ module _ (k : Cuts) (w : Change) (t : ℕ) (next : IsNextGrid w.old w.mark w.new
       )
 
   -- a refined cell that is told its new value and whether it merges
-  pub refined_works : (m : Centre) → Gives (w.next c) m.next → (IsTrue m.merges ↔ Merges w.old w.mark c) → is_refined w.old c ≡ true → (x y : Slot) → y ≡ told_slot (refined_intends m) x → Works k w t true c x y
-  refined_works m gives is refined x y e half =
-      let takes : intent_told (Some (if m.merges then Merge else Stay)) x.status x.intent ≡ (if m.merges then Merge else Stay) = refined_takes m.merges x.status x.intent (half.shows.status ∙ ap status_of refined) in
-      let intent : IsIntentOf w.old w.mark c (intent_told (Some (if m.merges then Merge else Stay)) x.status x.intent) = subst (IsIntentOf w.old w.mark c) (sym takes) (merge_is_intent w.old w.mark c refined m.merges is) in
+  pub refined_works : (s : State) (b : Bool) → Gives (w.next c) s → (IsTrue b ↔ Merges w.old w.mark c) → is_refined w.old c ≡ true → (x y : Slot) → y ≡ told_slot (refined_intends s b) x → Works k w t true c x y
+  refined_works s b gives is refined x y e half =
+      let takes : intent_told (Some (if b then Merge else Stay)) x.status x.intent ≡ (if b then Merge else Stay) = refined_takes b x.status x.intent (half.shows.status ∙ ap status_of refined) in
+      let intent : IsIntentOf w.old w.mark c (intent_told (Some (if b then Merge else Stay)) x.status x.intent) = subst (IsIntentOf w.old w.mark c) (sym takes) (merge_is_intent w.old w.mark c refined b is) in
       subst (λ z. Halfway k w c z × SecondaryCall k w t true c x z) (sym e) (
-        record { shows = record { status = half.shows.status; mark = half.shows.mark; intent = inr (intent_between_grids w.old w.new w.mark c (intent_told (Some (if m.merges then Merge else Stay)) x.status x.intent) next intent) }; next = λ s skeleton. absurd (not_both w.old c skeleton.0.leaf refined) },
+        record { shows = record { status = half.shows.status; mark = half.shows.mark; intent = inr (intent_between_grids w.old w.new w.mark c (intent_told (Some (if b then Merge else Stay)) x.status x.intent) next intent) }; next = λ s skeleton. absurd (not_both w.old c skeleton.0.leaf refined) },
         record { status = refl; value = refl; mark = refl; next = λ owns deep. gives; intent = λ owns deep. intent; kept = λ apart. absurd (apart refined) },
       )
 

@@ -22,16 +22,13 @@ use Rattle.peano_curve.specs.Run.{HoldsCell}
 use Rattle.stack_law.specs.Once.{IsIn}
 use Rattle.sweep_visits.specs.Plan.{SweepPlan, IsSweepPlan, dim_of, is_cell_in}
 use Rattle.sweep_visits.specs.Runs.{turned_round}
-use Rattle.sweep_visits.specs.Moves.{moves_of, taken_by, put_by}
 use Rattle.sweep_visits.proofs.Tests.{held_told}
-use Rattle.sweep_streams.specs.Counts.{pushed_by}
 use Rattle.sweep_visits.specs.Visits.{enter}
 use Rattle.sweep_streams.specs.Records.{IsHeldCell, in_grids, entered_at}
 use Rattle.sweep_streams.proofs.Records.{each_held_cell_once}
 use Rattle.sweep_streams.specs.Streams.{ComesAfter}
 use Rattle.vertex_stacks.specs.declared.kind.Kind.TheVariants as kind
 use Rattle.vertex_stacks.specs.Notes.{Note}
-use Rattle.vertex_stacks.specs.Tales.{capped}
 use Rattle.tree_automaton.specs.declared.kinds.Serves.TheVariants.{Plain}
 use Rattle.tree_automaton.specs.Noted.{note_of}
 use Rattle.tree_automaton.specs.TreeLists.{TreeLists}

@@ -23,7 +23,8 @@ pub record Kernel : Type 0 where
 
 -- the kernel of a solver, by what its trait tells of it
 abbrev pub kernel_by : {S : Type 0} → (S → ℕ) → (S → UpdateRule) → (S → MarkRule) → S → Kernel
-kernel_by parts updated marked s = record { parts = parts s; updated = updated s; marked = marked s }
+kernel_by parts updated marked s =
+    record { parts = parts s; updated = updated s; marked = marked s }
 
 -- the new state of a leaf from its view: from its value at the home corner, its sides and its level
 abbrev pub new_in : Kernel → Dim → CellView → Option State

@@ -41,7 +41,8 @@ module _ {S : Type 0} (kernel : S → Kernel) where
   pub record LeafMarked (a : PrimaryWork S) (v w : CellView) (b : PrimaryWork S) : Type 0 where
     pub computed : IsComputed a v
     pub enclave : DecidesEnclave (cuts_of a.keys) a.tree v true
-    pub told : IsTold a.keys.dim (mark_told (kernel a.solver) a.keys.dim v) v (record w { task = v.task })
+    pub told : IsTold a.keys.dim (mark_told (kernel a.solver) a.keys.dim v) v
+        (record w { task = v.task })
     pub offered : Offers a.tasks w.task b.tasks
     pub same : b ≡ record a { tasks = b.tasks }
 
@@ -51,7 +52,10 @@ module _ {S : Type 0} (kernel : S → Kernel) where
     pub skeleton : DecidesEnclave (cuts_of a.keys) a.tree v false
     pub told : IsTold a.keys.dim (leaf_told (kernel a.solver) a.keys.dim v) v w
     pub found : b
-        ≡ record a { failing = failing_with a.failing v.key (new_in (kernel a.solver) a.keys.dim v) }
+        ≡ record a {
+          failing = failing_with a.failing v.key
+              (new_in (kernel a.solver) a.keys.dim v);
+        }
 
   -- any other cell is passed by
   pub record CellPassed (a : PrimaryWork S) (v w : CellView) (b : PrimaryWork S) : Type 0 where

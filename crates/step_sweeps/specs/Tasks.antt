@@ -26,7 +26,8 @@ no_task = 2 ^ 32 - 1
 module _ {S : Type 0} where
   -- a leaf is spawned as the next task, where the desk has a place for one more
   abbrev pub Offers : TasksSeen S → ℕ → TasksSeen S → Type 0
-  Offers a number b = ((a.spawned < a.size) × (number ≡ a.spawned) × (b ≡ record a { spawned = a.spawned + 1 }))
+  Offers a number b =
+      ((a.spawned < a.size) × (number ≡ a.spawned) × (b ≡ record a { spawned = a.spawned + 1 }))
       ⊎ ((a.size ≤ a.spawned) × (number ≡ no_task) × (b ≡ a))
 
   -- nothing was done but that tasks were spawned
@@ -40,7 +41,9 @@ module _ {S : Type 0} where
 
   -- an answer gathers the greatest number that is left
   abbrev pub Answers : TasksSeen S → TasksSeen S → Type 0
-  Answers a b = ((0 < a.left) × Collects (a.left - 1) a.seat b.seat × (b ≡ record a { left = a.left - 1; seat = b.seat }))
+  Answers a b =
+      ((0 < a.left) × Collects (a.left - 1) a.seat b.seat
+      × (b ≡ record a { left = a.left - 1; seat = b.seat }))
       ⊎ ((a.left ≡ 0) × (b ≡ a))
 
   -- a number was gathered, or found idle or busy

@@ -30,7 +30,14 @@ intent_told (Some Merge) Leaf i = i
 
 -- a slot with what is told
 abbrev pub told_slot : Told → Slot → Slot
-told_slot t s = record { status = s.status; value = s.value; next = unwrap_or t.next s.next; mark = unwrap_or t.mark s.mark; intent = intent_told t.intent s.status s.intent }
+told_slot t s =
+    record {
+      status = s.status;
+      value = s.value;
+      next = unwrap_or t.next s.next;
+      mark = unwrap_or t.mark s.mark;
+      intent = intent_told t.intent s.status s.intent;
+    }
 
 -- at corner `n` it is told in the cell's own slot
 abbrev pub told_record : Dim → Told → ℕ → VertexRecord → VertexRecord

@@ -2,17 +2,10 @@
 ghost use Rattle.std.specs.Prelude.{◌≡◌, ◌≤◌, ◌<◌, ◌↔◌, IsTrue};
 ghost use Rattle.peano_keys.specs.Cell.{IsCell};
 ghost use Rattle.adapt_marks.specs.Views.{IsCentre};
-ghost use Rattle.step_sweeps.specs.Secondaries.{next_at_home};
+ghost use Rattle.step_sweeps.specs.Secondaries.{next_at_home, HasWords};
 
 use peano_keys::{CellKey, Dim, State, child, home_corner, parent, slot_of};
 use peano_records::{CellView, Corner};
-
-// What a centre child told as it was left: its new value, and whether its parent merges.
-#[derive(Clone, Copy, Debug, PartialEq, Eq)]
-pub(crate) struct Centre {
-    pub(crate) next: State,
-    pub(crate) merges: bool,
-}
 
 // Whether a cell is the centre child of its parent.
 pub(crate) fn is_centre(dim: Dim, key: CellKey) -> bool
@@ -32,7 +25,8 @@ pub(crate) fn is_centre(dim: Dim, key: CellKey) -> bool
 // The new value in the slot of the cell at its home corner.
 pub(crate) fn home_next(dim: Dim, view: &CellView) -> State
     requires { IsCell dim view.now.key }
-    ensures { result ≡ next_at_home dim view.now }
+    ensures value { result ≡ next_at_home dim view.now }
+    ensures words { HasWords (next_at_home dim view.now) }
 {
     let home = home_corner(dim, view.key);
     match &view.corners[home as usize] {

@@ -6,6 +6,7 @@ mod centre;
 mod leaf;
 mod primary;
 mod secondary;
+mod sums;
 mod sweeps;
 mod tally;
 mod tasks;

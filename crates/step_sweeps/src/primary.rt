@@ -41,9 +41,16 @@ impl<'a, S: Updates> Model for Primary<'a, S> {
 
     ghost Value = { PrimaryWork S };
 
-    ghost view = { λ p. record { solver = p.solver.now; keys = p.keys.now; tree = p.tree; failing = p.failing; tasks = p.tasks } };
+    ghost view = { λ p. record {
+      solver = p.solver.now;
+      keys = p.keys.now;
+      tree = p.tree;
+      failing = p.failing;
+      tasks = p.tasks;
+    } };
 
-    ghost invariant = { λ p. (p.tree < (cuts_of p.keys.now).trees) × (p.tasks.solver ≡ p.solver.now) };
+    ghost invariant = { λ p. (p.tree < (cuts_of p.keys.now).trees)
+        × (p.tasks.solver ≡ p.solver.now) };
 }
 
 /// Whether a view is of a leaf that a tree owns.
@@ -97,7 +104,14 @@ impl<'a, S: Updates> Primary<'a, S> {
     pub fn new(solver: &'a S, keys: &'a Keys, tree: u32, tasks: TreeTasks<'a, S>) -> Primary<'a, S>
         requires tree { tree < (cuts_of keys.now).trees }
         requires solver { tasks.solver ≡ solver.now }
-        ensures { result ≡ record { solver = solver.now; keys = keys.now; tree = tree; failing = None; tasks = tasks.entry } }
+        ensures { result
+            ≡ record {
+              solver = solver.now;
+              keys = keys.now;
+              tree = tree;
+              failing = None;
+              tasks = tasks.entry;
+            } }
     {
         Primary {
             solver,
@@ -123,11 +137,19 @@ impl<'a, S: Updates> Primary<'a, S> {
 }
 
 impl<'a, S: Solver> Visitor for Primary<'a, S> {
-    ghost meaning = { λ p. record { serves = Plain; dim = p.keys.dim; new_grid = record { dim = p.keys.dim; refined = set.empty }; may_want = false; loan = 0 } };
+    ghost meaning = { λ p. record {
+      serves = Plain;
+      dim = p.keys.dim;
+      new_grid = record { dim = p.keys.dim; refined = set.empty };
+      may_want = false;
+      loan = 0;
+    } };
 
-    ghost entered = { PrimaryEnters (λ s. record { parts = S.parts_of s; updated = S.updated s; marked = S.marked s }) };
+    ghost entered = { PrimaryEnters
+        (λ s. record { parts = S.parts_of s; updated = S.updated s; marked = S.marked s }) };
 
-    ghost left = { PrimaryLeaves (λ s. record { parts = S.parts_of s; updated = S.updated s; marked = S.marked s }) };
+    ghost left = { PrimaryLeaves
+        (λ s. record { parts = S.parts_of s; updated = S.updated s; marked = S.marked s }) };
 
     fn refined_after(&mut self, cell: &CellView) -> bool {
         matches!(cell.was, Some(true))

@@ -1,24 +1,28 @@
 //! The visitor of the secondary sweep.
-ghost use Rattle.std.specs.Prelude.{◌≡◌, ◌≤◌, ◌<◌, ◌↔◌, IsTrue, true, false, None, replicate};
+ghost use Rattle.std.specs.Prelude.{◌≡◌, ◌≤◌, ◌<◌, ◌↔◌, ◌+◌, IsTrue, true, false, None, [], replicate};
 ghost use Rattle.std.specs.FinSet as set;
 ghost use Rattle.peano_keys.specs.Cell.{IsCell};
+ghost use Rattle.curve_cuts.specs.Cuts.{Owns};
 ghost use Rattle.curve_cuts.specs.Keys.{cuts_of};
+ghost use Rattle.step_sweeps.specs.Kernels.{IsOwnLeaf};
 ghost use Rattle.tree_automaton.specs.Promises.{IsViewIn};
 ghost use Rattle.tree_automaton.specs.declared.kinds.Serves.TheVariants.{Plain};
 ghost use Rattle.step_sweeps.specs.Told.{IsTold};
-ghost use Rattle.step_sweeps.specs.Secondaries.{SecondaryEnters, SecondaryLeaves, RefinedLeft, CentreLeft, IsOwnRefined, leaf_intends, refined_intends, nothing_told, one_if};
+ghost use Rattle.step_sweeps.specs.Secondaries.{SecondaryEnters, SecondaryLeaves, RefinedLeft, SumsLeft, CentreLeft, LeafAdds, WholeAdds, SharedAdds, IsRefinedView, IsOwnRefined, is_whole, leaf_intends, refined_intends, cleared, summed, sums_at, no_sums, one_if};
 
-use crate::centre::{Centre, home_next, is_centre};
+use crate::centre::{home_next, is_centre};
 use crate::leaf::{have_parts, home_value};
 use crate::primary::{failing, is_own_leaf};
+use crate::sums::{added, all_rounded, copied, hand_out, is_within, means, weighed};
 use crate::tally::Tally;
 use crate::tasks::TreeTasks;
 use crate::told::Told;
 use adapt_marks::{merges, splits};
+use cell_sums::weight;
 use curve_cuts::Keys;
 use enclave_marks::is_enclave;
 use peano_keys::{CellKey, State};
-use peano_records::{CellView, Intent};
+use peano_records::{CellView, Intent, Partial, Partials};
 use result_table::Updates;
 use solver_api::Solver;
 use std::alloc::AllocError;
@@ -28,16 +32,20 @@ use tree_automaton::Visitor;
 
 /// Finishes a step in the cells that a tree owns, once the marks of all leaves and the new values of skeleton leaves are
 /// there: each leaf and each refined cell takes its intent, each enclave leaf its new value as `next`, and each refined
-/// cell that of its centre child. The new value of an enclave leaf is a helper's, where one published it, and else computed
-/// here. An enclave leaf that has no new value keeps its `next`. Takes no memory.
+/// cell the means of what the tree has of it: sums over the leaves below it that the tree owns, each times its weight, and
+/// over merging cells that no other tree holds in place of their leaves, with their means. The new value of an enclave leaf
+/// is a helper's, where one published it, and else computed here. An enclave leaf that has no new value keeps its `next`.
+/// What the tree has of a cell that another tree holds too is handed out as a partial. Takes no memory.
 #[derive(Drop)]
 pub struct Secondary<'a, S: Updates, G> {
     solver: &'a S,
     keys: &'a Keys,
     tree: u32,
-    centres: [Centre; 13],
+    sums: [[i128; 4]; 14],
+    merging: [bool; 14],
     splits: u64,
     merges: u64,
+    partials: Partials,
     failing: Option<CellKey>,
     tasks: TreeTasks<'a, S>,
     gate: &'a G,
@@ -51,9 +59,28 @@ impl<'a, S: Updates, G> Model for Secondary<'a, S, G> {
 
     ghost Value = { SecondaryWork S };
 
-    ghost view = { λ s. record { solver = s.solver.now; keys = s.keys.now; tree = s.tree; centres = s.centres; splits = s.splits; merges = s.merges; failing = s.failing; tasks = s.tasks } };
+    ghost view = { λ s. record {
+      solver = s.solver.now;
+      keys = s.keys.now;
+      tree = s.tree;
+      sums = s.sums;
+      merging = s.merging;
+      splits = s.splits;
+      merges = s.merges;
+      partials = s.partials;
+      failing = s.failing;
+      tasks = s.tasks;
+    } };
 
-    ghost invariant = { λ s. (s.tree < (cuts_of s.keys.now).trees) × (length s.centres ≡ 13) × (s.tasks.solver ≡ s.solver.now) };
+    ghost invariant = { λ s. (s.tree < (cuts_of s.keys.now).trees) × (length s.sums ≡ 14)
+        × (length s.merging ≡ 14) × (s.tasks.solver ≡ s.solver.now) };
+}
+
+// Whether the cell of a view is refined.
+fn is_refined(keys: &Keys, view: &CellView) -> bool
+    ensures { IsTrue result ↔ IsRefinedView (cuts_of keys.now) view.now }
+{
+    matches!(view.was, Some(true)) && view.key.level < keys.depth()
 }
 
 // Whether a tree owns the refined cell of a view.
@@ -80,18 +107,14 @@ fn leaf_intends(next: Option<State>, split: bool) -> Told
     }
 }
 
-// What a refined cell is told: what its centre child told.
-fn refined_intends(centre: Centre) -> Told
-    ensures { result ≡ refined_intends centre }
+// What a refined cell is told: its new value, and whether it merges.
+fn refined_intends(next: State, merges: bool) -> Told
+    ensures { result ≡ refined_intends next merges }
 {
     Told {
         mark: None,
-        next: Some(centre.next),
-        intent: Some(if centre.merges {
-            Intent::Merge
-        } else {
-            Intent::Stay
-        }),
+        next: Some(next),
+        intent: Some(if merges { Intent::Merge } else { Intent::Stay }),
     }
 }
 
@@ -118,30 +141,52 @@ impl<'a, S: Updates, G> Secondary<'a, S, G> {
     ) -> Secondary<'a, S, G>
         requires tree { tree < (cuts_of keys.now).trees }
         requires solver { tasks.solver ≡ solver.now }
-        ensures { result ≡ record { solver = solver.now; keys = keys.now; tree = tree; centres = replicate 13 nothing_told; splits = 0; merges = 0; failing = None; tasks = tasks.entry } }
+        ensures { result
+            ≡ record {
+              solver = solver.now;
+              keys = keys.now;
+              tree = tree;
+              sums = replicate 14 no_sums;
+              merging = replicate 14 false;
+              splits = 0;
+              merges = 0;
+              partials = [];
+              failing = None;
+              tasks = tasks.entry;
+            } }
     {
-        let nothing = Centre {
-            next: State::Single(0),
-            merges: false,
-        };
         Secondary {
             solver,
             keys,
             tree,
-            centres: [nothing; 13],
+            sums: [[0; 4]; 14],
+            merging: [false; 14],
             splits: 0,
             merges: 0,
+            partials: Partials::new(),
             failing: None,
             tasks,
             gate,
         }
     }
 
+    /// The partials of the cells that the tree shares, once the sweep is over.
+    pub fn partials(&self) -> Partials
+        ensures { result ≡ self.now.partials }
+    {
+        copied(&self.partials)
+    }
+
     /// The tree's tasks; and the least enclave leaf that has no new value, how many leaves of the tree's own split, and how
     /// many refined cells merge.
     pub fn close(self) -> (TreeTasks<'a, S>, Tally)
         ensures tasks { result.0 ≡ self.entry.tasks }
-        ensures tally { result.1 ≡ record { failing = self.entry.failing; splits = self.entry.splits; merges = self.entry.merges } }
+        ensures tally { result.1
+            ≡ record {
+              failing = self.entry.failing;
+              splits = self.entry.splits;
+              merges = self.entry.merges;
+            } }
     {
         let tally = Tally {
             failing: self.failing,
@@ -162,48 +207,149 @@ impl<'a, S: Updates, G> Secondary<'a, S, G> {
         self.splits = counted(split, self.splits);
     }
 
-    // A refined cell of the tree takes what its centre child told.
-    fn finish(&mut self, cell: &mut CellView)
-        requires { IsViewIn self.old.keys.dim cell.old }
-        ensures left { RefinedLeft self.old cell.old cell.new self.new }
+    // As a cell is entered the sums of the level below it are cleared.
+    fn clear(&mut self, cell: CellKey)
+        requires { IsCell self.old.keys.dim cell }
+        ensures { self.new ≡ cleared self.old cell.level }
+    {
+        self.sums[cell.level as usize + 1] = [0; 4];
+    }
+
+    // As it is left something is added to those of its own level.
+    fn add(&mut self, cell: CellKey, sums: &[i128; 4])
+        requires { IsCell self.old.keys.dim cell }
+        ensures { self.new ≡ summed self.old cell.level sums.now }
+    {
+        let level = cell.level as usize;
+        let before = self.sums[level];
+        self.sums[level] = added(&before, sums);
+    }
+
+    // A refined cell of the tree takes the means of the sums of the level below, and its intent by what its centre child told.
+    fn finish(&mut self, parts: u32, cell: &mut CellView)
+        requires least { 1 ≤ parts }
+        requires most { parts ≤ 4 }
+        requires view { IsViewIn self.old.keys.dim cell.old }
+        ensures left { RefinedLeft (λ _. parts) self.old cell.old cell.new self.new }
         ensures keys { self.new.keys ≡ self.old.keys }
     {
         if !is_own_refined(self.keys, self.tree, cell) {
             return;
         }
-        let centre = self.centres[cell.key.level as usize + 1];
-        refined_intends(centre).in_view(self.keys.dim(), cell);
-        self.merges = counted(centre.merges, self.merges);
+        let dim = self.keys.dim();
+        let below = cell.key.level as usize + 1;
+        let merges = self.merging[below];
+        let weight = weight(dim, self.keys.depth() - cell.key.level);
+        let sums = self.sums[below];
+        let next = means(parts, &sums, weight);
+        refined_intends(next, merges).in_view(dim, cell);
+        self.merges = counted(merges, self.merges);
     }
 
-    // A centre child tells its new value, and whether its parent merges.
+    // A leaf of the tree adds its new value times its weight to the sums of its level.
+    fn add_leaf(&mut self, cell: &CellView)
+        requires cell { IsCell self.old.keys.dim cell.now.key }
+        requires own { IsOwnLeaf (cuts_of self.old.keys) self.old.tree cell.now }
+        ensures { LeafAdds self.old cell.now self.new }
+    {
+        let dim = self.keys.dim();
+        let weight = weight(dim, self.keys.depth() - cell.key.level);
+        self.add(cell.key, &weighed(&home_next(dim, cell), weight));
+    }
+
+    // A refined cell of the tree that it has whole adds its sums, where it merges with their floors in their places.
+    fn add_whole(&mut self, cell: &CellView)
+        requires cell { IsCell self.old.keys.dim cell.now.key }
+        requires own { IsOwnRefined (cuts_of self.old.keys) self.old.tree cell.now }
+        requires whole { is_whole self.old.keys self.old.tree cell.now ≡ true }
+        ensures { WholeAdds self.old cell.now self.new }
+    {
+        let below = cell.key.level as usize + 1;
+        let sums = self.sums[below];
+        if !self.merging[below] {
+            self.add(cell.key, &sums);
+            return;
+        }
+        let weight = weight(self.keys.dim(), self.keys.depth() - cell.key.level);
+        self.add(cell.key, &all_rounded(&sums, weight));
+    }
+
+    // A shared cell adds its sums, and hands them out.
+    fn add_shared(&mut self, cell: &CellView, owned: bool)
+        requires cell { IsCell self.old.keys.dim cell.now.key }
+        requires refined { IsRefinedView (cuts_of self.old.keys) cell.now }
+        requires shared { is_whole self.old.keys self.old.tree cell.now ≡ false }
+        requires owned { IsTrue owned ↔ Owns (cuts_of self.old.keys) self.old.tree cell.now.key }
+        ensures { SharedAdds self.old cell.now self.new }
+    {
+        let below = cell.key.level as usize + 1;
+        let sums = self.sums[below];
+        let merges = owned && self.merging[below];
+        let partial = Partial {
+            key: cell.key,
+            sums,
+            merges,
+        };
+        self.add(cell.key, &sums);
+        hand_out(&mut self.partials, partial);
+    }
+
+    // A cell adds what the tree has of it to the sums of its level.
+    fn sum_up(&mut self, cell: &CellView)
+        requires { IsCell self.old.keys.dim cell.now.key }
+        ensures left { SumsLeft self.old cell.now self.new }
+        ensures keys { self.new.keys ≡ self.old.keys }
+    {
+        if is_own_leaf(self.keys, self.tree, cell) {
+            self.add_leaf(cell);
+            return;
+        }
+        if !is_refined(self.keys, cell) {
+            return;
+        }
+        let owned = self.keys.owns(cell.key, self.tree);
+        if !is_within(self.keys, self.tree, cell.key) {
+            self.add_shared(cell, owned);
+            return;
+        }
+        if owned {
+            self.add_whole(cell);
+        }
+    }
+
+    // A centre child tells whether its parent merges.
     fn remember(&mut self, cell: &CellView)
         requires { IsCell self.old.keys.dim cell.now.key }
         ensures left { CentreLeft self.old cell.now self.new }
         ensures keys { self.new.keys ≡ self.old.keys }
     {
-        let dim = self.keys.dim();
-        if !is_centre(dim, cell.key) {
+        if !is_centre(self.keys.dim(), cell.key) {
             return;
         }
-        let next = home_next(dim, cell);
-        let merges = merges(cell);
-        self.centres[cell.key.level as usize] = Centre { next, merges };
+        self.merging[cell.key.level as usize] = merges(cell);
     }
 }
 
 impl<'a, S: Solver, G: Passes> Visitor for Secondary<'a, S, G> {
-    ghost meaning = { λ s. record { serves = Plain; dim = s.keys.dim; new_grid = record { dim = s.keys.dim; refined = set.empty }; may_want = false; loan = 0 } };
+    ghost meaning = { λ s. record {
+      serves = Plain;
+      dim = s.keys.dim;
+      new_grid = record { dim = s.keys.dim; refined = set.empty };
+      may_want = false;
+      loan = 0;
+    } };
 
-    ghost entered = { SecondaryEnters (λ s. record { parts = S.parts_of s; updated = S.updated s; marked = S.marked s }) };
+    ghost entered = { SecondaryEnters
+        (λ s. record { parts = S.parts_of s; updated = S.updated s; marked = S.marked s }) };
 
-    ghost left = { SecondaryLeaves };
+    ghost left = { SecondaryLeaves (λ s. S.parts_of s) };
 
     fn refined_after(&mut self, cell: &CellView) -> bool {
         matches!(cell.was, Some(true))
     }
 
     fn enter(&mut self, cell: &mut CellView) -> Result<(), AllocError> {
+        self.clear(cell.key);
         if !is_own_leaf(self.keys, self.tree, cell) {
             return Ok(());
         }
@@ -226,7 +372,9 @@ impl<'a, S: Solver, G: Passes> Visitor for Secondary<'a, S, G> {
     }
 
     fn leave(&mut self, cell: &mut CellView) -> Result<(), AllocError> {
-        self.finish(cell);
+        let parts = self.solver.parts();
+        self.finish(parts, cell);
+        self.sum_up(cell);
         self.remember(cell);
         Ok(())
     }

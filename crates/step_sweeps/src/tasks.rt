@@ -30,9 +30,18 @@ impl<'p, S: Updates> Model for TreeTasks<'p, S> {
 
     ghost Value = { TasksSeen S };
 
-    ghost view = { λ p. record { tree = p.tree; solver = pool_solver p.pool.now; size = p.size; spawned = spawned_of p.hand; left = p.left; seat = hand_view p.hand } };
+    ghost view = { λ p. record {
+      tree = p.tree;
+      solver = pool_solver p.pool.now;
+      size = p.size;
+      spawned = spawned_of p.hand;
+      left = p.left;
+      seat = hand_view p.hand;
+    } };
 
-    ghost invariant = { λ p. IsHandOf p.pool.now p.hand × (tree_of p.hand ≡ p.tree) × HasTasks p.pool.now p.tree p.size × (p.left ≤ p.size) × ((k : ℕ) → k < p.left → IsUncollected (hand_view p.hand) k) };
+    ghost invariant = { λ p. IsHandOf p.pool.now p.hand × (tree_of p.hand ≡ p.tree)
+        × HasTasks p.pool.now p.tree p.size × (p.left ≤ p.size)
+        × ((k : ℕ) → k < p.left → IsUncollected (hand_view p.hand) k) };
 }
 
 impl<'p, S: Updates> TreeTasks<'p, S> {

@@ -12,7 +12,8 @@ use Rattle.step_phases.specs.Phases.{HasNext, AfterSecondary}
 use Rattle.step_phases.specs.Sweeps.{IsSwept}
 
 -- after a secondary sweep that leaves out the cells of a test
-pub record AfterPart (k : Cuts) (w : Change) (left_out : CellKey → Bool) (t : ℕ) (c : CellKey) (s : Slot) : Type 0 where
+pub record AfterPart (k : Cuts) (w : Change) (left_out : CellKey → Bool) (t : ℕ) (c : CellKey)
+    (s : Slot) : Type 0 where
   pub status : s.status ≡ status_of (is_refined w.old c)
   pub value : s.value ≡ w.value c
   pub mark : HasMark w.old w.mark c s
@@ -20,7 +21,8 @@ pub record AfterPart (k : Cuts) (w : Change) (left_out : CellKey → Bool) (t : 
   pub intent : Owns k t c → s.intent ≡ intent_between (is_refined w.old c) (is_refined w.new c)
 
 -- the sums give these their new values, and change no other cell
-pub record SumChanges (k : Cuts) (w : Change) (left_out : CellKey → Bool) (t : ℕ) (c : CellKey) (old new : Slot) : Type 0 where
+pub record SumChanges (k : Cuts) (w : Change) (left_out : CellKey → Bool) (t : ℕ) (c : CellKey)
+    (old new : Slot) : Type 0 where
   pub status : new.status ≡ old.status
   pub value : new.value ≡ old.value
   pub mark : new.mark ≡ old.mark

@@ -13,7 +13,8 @@ abbrev pub ValueRule : Type 0
 ValueRule = Spacetree → States → CellKey → State
 
 -- the change of a step by such a rule: the new value of a cell is its value in the next field, and that of a leaf which the next grid does not have is its new state
-abbrev pub change_by : ValueRule → UpdateRule → MarkRule → Spacetree → States → Spacetree → States → Change
+abbrev pub change_by : ValueRule → UpdateRule → MarkRule → Spacetree → States → Spacetree → States
+    → Change
 change_by value updated marked g f new after = record {
   old = g;
   new = new;

@@ -1,6 +1,5 @@
 //! Laws of the changes that steps make.
 ghost use Rattle.step_values.specs.Values.{AnyValueIsChange, AnyLeafTakesNewState, ValueShowsLeaves, ValueSplitsEvenly, StepIsChange, LeafTakesNewState};
-ghost use Rattle.step_values.specs.Centres.{StepTakesCentre, CentresGiveNext};
 ghost use Rattle.step_values.specs.Sums.{SumsComplete};
 
 /// By any value that splits evenly a step makes a change.
@@ -31,16 +30,6 @@ pub fn step_is_change()
 /// The new value of a leaf is what the solver makes of it.
 pub fn leaf_takes_new_state()
     ensures { LeafTakesNewState }
-{}
-
-/// The new value of a refined cell is that of its centre child.
-pub fn step_takes_centre()
-    ensures { StepTakesCentre }
-{}
-
-/// A tree that takes new values from centre children has that of each of its own cells.
-pub fn centres_give_next()
-    ensures { CentresGiveNext }
 {}
 
 /// Sums complete what a secondary sweep leaves out.

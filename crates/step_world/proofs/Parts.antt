@@ -1,5 +1,5 @@
 -- The next field has states with as many values.
-use Rattle.std.proofs.Common.{◌≡◌, ⊎_elim, ℕ, zero, suc, ◌-◌, ◌<◌, Bool, true, false, if◌then◌else◌, refl, sym, subst, arith, Option, Some, None}
+use Rattle.std.proofs.Common.{◌≡◌, ⊎_elim, ℕ, zero, suc, ◌<◌, Bool, true, false, if◌then◌else◌, refl, sym, subst, arith, Option, Some, None}
 use Rattle.std.specs.Prelude.{IfSome}
 use Rattle.std.specs.FinMap as map
 use Rattle.peano_keys.specs.declared.dim.Dim.{Dim}
@@ -16,11 +16,11 @@ use Rattle.peano_keys.proofs.Faces.{Next, neighbour_next}
 use Rattle.solver_api.specs.Parts.{SideHas, SidesHave, HaveParts}
 use Rattle.solver_api.specs.Step.{IsLeafOf, marks_of, new_state, source_of}
 use Rattle.spacetree.specs.Fields.{IsFieldOn}
-use Rattle.spacetree.proofs.NextGrids.{source_is_leaf}
-use Rattle.spacetree.proofs.Values.{count_at_leaf, count_at_centre, count_at_cover, away_unrefined}
-use Rattle.step_world.specs.Steps.{StepKeepsParts}
+use Rattle.spacetree.proofs.Values.{count_at_leaf, count_of_value, count_at_cover, away_unrefined}
+use Rattle.spacetree.proofs.NextGrids.{source_is_cell}
+use Rattle.step_world.specs.Steps.{NewStatesAreField, StepKeepsParts}
 use Rattle.spacetree.proofs.Told.{leaf_told}
-use Rattle.step_world.proofs.Worlds.{field_of_next}
+use Rattle.step_world.proofs.Worlds.{field_of_next, is_there, is_not}
 
 next_within : (up : Bool) (e x y : ℕ) → x < e → Next up e x y → y < e
 next_within true e x y h next = next.1
@@ -45,7 +45,7 @@ module _ (parts : ℕ) (g : Spacetree) (f : States) (grid : IsGrid 12 g) (field 
   side_has (Some q) there =
       let cell = there q refl in
       elim (has_cell g q) as (λ b. has_cell g q ≡ b → SideHas parts (if b then Same (value_of g f q) else Coarse (covering_state q.level g f q))) [
-        | true ↦ λ h. count_at_centre (12 - q.level) parts g f q grid field cell h (omega (arith, cell.level))
+        | true ↦ λ h. count_of_value 12 parts g f q (omega arith) grid field cell h
         | false ↦ λ h. count_at_cover q.level parts g f q field cell (away_unrefined g q grid h) refl
       ] refl
 
@@ -70,14 +70,27 @@ if_new : (o p : Option State) (P : State → Type 0) → o ≡ p → ((s : State
 if_new o None P e each = subst (λ p. IfSome p P) (sym e) tt
 if_new o (Some s) P e each = subst (λ p. IfSome p P) (sym e) (each s refl)
 
+pub new_states_are_field : NewStatesAreField
+new_states_are_field parts updated g f states grid field keeps made = record {
+  leaves = λ c. (
+    λ some. ⊎_elim (λ leaf. leaf) (λ apart. absurd (is_not (map.get states c) (made.others c apart) some)) (leaf_told g c),
+    λ leaf. is_there (map.get states c) (new_state updated g f c) (made.leaves c leaf) (made.updates c leaf),
+  );
+  counts = λ c. ⊎_elim
+      (λ leaf. if_new (map.get states c) (new_state updated g f c) (λ s. count_of s ≡ parts) (made.leaves c leaf) (λ s e. keeps (state_at f c) (sides_of g f c) c.level s (leaf_has parts g f grid field c leaf) e))
+      (λ apart. if_none (map.get states c) (λ s. count_of s ≡ parts) (made.others c apart))
+      (leaf_told g c);
+}
+
 pub step_keeps_parts : StepKeepsParts
 step_keeps_parts parts updated marked g f new after grid field keeps step = record {
   leaves = field_of_next updated marked g f new after grid step;
   counts = λ c. ⊎_elim
       (λ leaf.
       let q : CellKey = source_of g c in
-      let source = source_is_leaf g new (marks_of marked g f) c grid step.grid leaf in
-      if_new (map.get after c) (new_state updated g f q) (λ s. count_of s ≡ parts) (step.leaves c leaf) (λ s e. keeps (state_at f q) (sides_of g f q) q.level s (leaf_has parts g f grid field q source) e))
+      let from = source_is_cell g new (marks_of marked g f) c step.grid leaf in
+      let states = new_states_are_field parts updated g f step.states grid field keeps step.made in
+      subst (λ o. IfSome o (λ s. count_of s ≡ parts)) (sym (step.leaves c leaf)) (count_of_value 12 parts g step.states q (omega arith) grid states from.cell from.there))
       (λ apart. if_none (map.get after c) (λ s. count_of s ≡ parts) (step.others c apart))
       (leaf_told new c);
 }

@@ -13,14 +13,14 @@ use Rattle.peano_keys.specs.Cell.{IsCell, centre_digits, child_of}
 use Rattle.peano_keys.specs.Grid.{Spacetree, IsGrid, is_refined}
 use Rattle.peano_keys.specs.Field.{States, state_at, sides_of, value_of}
 use Rattle.peano_keys.specs.Next.{Merges}
-use Rattle.solver_api.specs.Step.{UpdateRule, MarkRule, IsStep, marks_of, new_state, source_of}
+use Rattle.solver_api.specs.Step.{UpdateRule, MarkRule, IsStep, marks_of, source_of}
 use Rattle.spacetree.specs.Evaluation.{Evaluates, OverflowsIn, CrowdsIn}
 use Rattle.spacetree.specs.declared.fault.EvalFault.TheVariants.{Overflow, Crowded, NoMemory}
 use Rattle.spacetree.specs.Fields.{HasLeaves}
 use Rattle.hanging_nodes.proofs.TwoGrids.{refined_there}
 use Rattle.spacetree.proofs.CellMaps.{cells_total, exact_cells}
 use Rattle.spacetree.proofs.Leaves.{leaf_there}
-use Rattle.spacetree.proofs.NextGrids.{next_is_grid, source_is_leaf}
+use Rattle.spacetree.proofs.NextGrids.{next_is_grid}
 use Rattle.spacetree.proofs.Values.{centre_is_digits}
 use Rattle.curve_cuts.specs.Cuts.{Cuts, IsCutGrid}
 use Rattle.step_phases.specs.Stores.{Stores}
@@ -64,17 +64,17 @@ deep_grid k g fits = record { cells = fits.grid.cells; levels = λ c h. omega (a
 pub start_stands : StartStands
 start_stands k g f before after fits field raised given = record { fits = fits; field = field; rest = start_rests k g (value_of g f) before after fits raised given }
 
-is_there : (o p : Option State) → o ≡ p → IsSome p → IsSome o
+pub is_there : (o p : Option State) → o ≡ p → IsSome p → IsSome o
 is_there o p e h = subst (λ q. IsSome q) (sym e) h
 
-is_not : (o : Option State) → o ≡ None → IsSome o → ⊥
+pub is_not : (o : Option State) → o ≡ None → IsSome o → ⊥
 is_not o e h = false≢true (subst (λ q. IsSome q) e h)
 
 -- the field of a step is one on the next grid
 pub field_of_next : (updated : UpdateRule) (marked : MarkRule) (g : Spacetree) (f : States) (new : Spacetree) (after : States) → IsGrid 12 g → IsStep updated marked g f new after → HasLeaves new after
 field_of_next updated marked g f new after grid step c = (
   λ some. ⊎_elim (λ leaf. leaf) (λ apart. absurd (is_not (map.get after c) (step.others c apart) some)) (leaf_told new c),
-  λ leaf. is_there (map.get after c) (new_state updated g f (source_of g c)) (step.leaves c leaf) (step.updates (source_of g c) (source_is_leaf g new (marks_of marked g f) c grid step.grid leaf)),
+  λ leaf. is_there (map.get after c) (Some (value_of g step.states (source_of g c))) (step.leaves c leaf) refl,
 )
 
 pub step_stands : StepStands

@@ -10,7 +10,8 @@ use Rattle.solver_api.specs.Step.{UpdateRule, IsLeafOf, Overflows, new_state}
 use Rattle.curve_cuts.specs.Cuts.{Cuts, Owns, IsCutGrid}
 
 -- a leaf of the tree's own that has no new state, while each before it in key order has one
-pub record IsLeastOfTree (k : Cuts) (updated : UpdateRule) (g : Spacetree) (f : States) (t : ℕ) (c : CellKey) : Type 0 where
+pub record IsLeastOfTree (k : Cuts) (updated : UpdateRule) (g : Spacetree) (f : States) (t : ℕ)
+    (c : CellKey) : Type 0 where
   pub leaf : IsLeafOf g c
   pub owned : Owns k t c
   pub failed : IsNone (new_state updated g f c)
@@ -24,7 +25,8 @@ FailsInTree k updated g f t None = (b : CellKey) → IsLeafOf g b → Owns k t b
 FailsInTree k updated g f t (Some c) = IsLeastOfTree k updated g f t c
 
 -- of the cells of some kind the least in key order that has no new value
-pub record IsLeastOf (P : CellKey → Type 0) (next : CellKey → Option State) (c : CellKey) : Type 0 where
+pub record IsLeastOf (P : CellKey → Type 0) (next : CellKey → Option State)
+    (c : CellKey) : Type 0 where
   pub kind : P c
   pub failed : IsNone (next c)
   pub least : (b : CellKey) → P b → key_cmp b c ≡ Less → IsSome (next b)

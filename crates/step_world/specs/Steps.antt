@@ -9,7 +9,7 @@ use Rattle.peano_keys.specs.State.{count_of}
 use Rattle.peano_keys.specs.Grid.{Spacetree, IsGrid}
 use Rattle.peano_keys.specs.Field.{States}
 use Rattle.peano_keys.specs.Next.{IsNextGrid}
-use Rattle.solver_api.specs.Step.{UpdateRule, MarkRule, IsStep}
+use Rattle.solver_api.specs.Step.{UpdateRule, MarkRule, IsStep, AreNewStates}
 use Rattle.solver_api.specs.Parts.{HaveParts}
 use Rattle.spacetree.specs.Fields.{IsFieldOn}
 use Rattle.curve_cuts.specs.Cuts.{Cuts, IsCutGrid}
@@ -25,7 +25,13 @@ abbrev pub KeepsParts : ℕ → UpdateRule → Type 0
 KeepsParts parts updated = (own : State) (sides : Sides) (level : ℕ) (new : State)
     → HaveParts parts own sides → updated own sides level ≡ Some new → count_of new ≡ parts
 
--- then so do the states of the next field
+-- then the new states of the leaves of a grid are a field on it, with states of as many values
+abbrev pub NewStatesAreField : Type 0
+NewStatesAreField = (parts : ℕ) (updated : UpdateRule) (g : Spacetree) (f states : States)
+    → IsGrid 12 g → IsFieldOn parts g f → KeepsParts parts updated → AreNewStates updated g f states
+    → IsFieldOn parts g states
+
+-- and so is the next field on the next grid
 abbrev pub StepKeepsParts : Type 0
 StepKeepsParts = (parts : ℕ) (updated : UpdateRule) (marked : MarkRule) (g : Spacetree) (f : States)
     (new : Spacetree) (after : States)

@@ -71,7 +71,8 @@ Reached updated marked k g f steps stores = (new : Spacetree) × (after : States
     × Evaluates updated marked g f steps new after × StandFor k stores new after
 
 -- or it was refused where the evaluation is
-abbrev pub HasRun : UpdateRule → MarkRule → Cuts → Spacetree → States → ℕ → Stores → Result Unit EvalFault → Type 0
+abbrev pub HasRun : UpdateRule → MarkRule → Cuts → Spacetree → States → ℕ → Stores
+    → Result Unit EvalFault → Type 0
 HasRun updated marked k g f steps stores (Ok u) = Reached updated marked k g f steps stores
 HasRun updated marked k g f steps stores (Err e) = EndsIn updated marked g f steps e
 
@@ -88,5 +89,6 @@ abbrev pub RunEnds : Type 0
 RunEnds = (updated : UpdateRule) (marked : MarkRule) (k : Cuts) (g : Spacetree) (f : States)
     (steps all : ℕ) (stores : Stores) (fault : EvalFault)
     → Reached updated marked k g f steps stores → steps < all
-    → ((h : Spacetree) (e : States) → StandFor k stores h e → StepFails updated marked h e (steps + 1) fault)
+    → ((h : Spacetree) (e : States) → StandFor k stores h e
+    → StepFails updated marked h e (steps + 1) fault)
     → EndsIn updated marked g f all fault

@@ -26,7 +26,8 @@ grid dim r = record { dim = dim; refined = r }
 
 -- a sweep by its grids, its depth, its range and its direction
 abbrev pub sweep : Option Spacetree → Spacetree → ℕ → ℕ → ℕ → Direction → SweepPlan
-sweep old new depth lo hi dir = record { depth = depth; range = record { lo = lo; hi = hi }; dir = dir; old = old; new = new }
+sweep old new depth lo hi dir =
+    record { depth = depth; range = record { lo = lo; hi = hi }; dir = dir; old = old; new = new }
 
 -- how many cells a sweep enters, and how many vertices it takes, puts and pushes
 pub record Moves (p : SweepPlan) (cells taken put pushed : ℕ) : Type 0 where
@@ -78,13 +79,24 @@ pushed_on p k = pushed (on_lane k (on_lanes (moves_of p)))
 -- What nine cells push on each of their four lanes: each vertex on its way to the next cell of its run.
 abbrev pub LanesOfNineCells : Type 0
 LanesOfNineCells = (r : Cells) → AreRefined r (root ∷ [])
-    → (pushed_on (sweep (Some (grid Two r)) (grid Two r) 1 0 9 Forward) 0 ≡ passing (vertex 1 2 3) (cell 1 2 2) ∷ passing (vertex 1 2 2) (cell 1 2 1) ∷ passing (vertex 1 2 0) (cell 1 2 0) ∷ passing (vertex 1 2 1) (cell 1 2 0) ∷ [])
-    × (pushed_on (sweep (Some (grid Two r)) (grid Two r) 1 0 9 Forward) 1 ≡ passing (vertex 1 1 0) (cell 1 1 0) ∷ passing (vertex 1 1 1) (cell 1 1 1) ∷ passing (vertex 1 1 2) (cell 1 1 2) ∷ passing (vertex 1 1 3) (cell 1 1 2) ∷ [])
-    × (pushed_on (sweep (Some (grid Two r)) (grid Two r) 1 0 9 Forward) 2 ≡ passing (vertex 1 0 2) (cell 1 0 2) ∷ passing (vertex 1 1 2) (cell 1 0 2) ∷ passing (vertex 1 1 2) (cell 1 1 1) ∷ passing (vertex 1 2 2) (cell 1 1 1) ∷ passing (vertex 1 2 2) (cell 1 2 2) ∷ passing (vertex 1 3 2) (cell 1 2 2) ∷ [])
-    × (pushed_on (sweep (Some (grid Two r)) (grid Two r) 1 0 9 Forward) 3 ≡ passing (vertex 1 0 1) (cell 1 0 1) ∷ passing (vertex 1 1 1) (cell 1 0 1) ∷ passing (vertex 1 1 1) (cell 1 1 0) ∷ passing (vertex 1 2 1) (cell 1 1 0) ∷ passing (vertex 1 2 1) (cell 1 2 1) ∷ passing (vertex 1 3 1) (cell 1 2 1) ∷ [])
+    → (pushed_on (sweep (Some (grid Two r)) (grid Two r) 1 0 9 Forward) 0
+    ≡ passing (vertex 1 2 3) (cell 1 2 2) ∷ passing (vertex 1 2 2) (cell 1 2 1)
+    ∷ passing (vertex 1 2 0) (cell 1 2 0) ∷ passing (vertex 1 2 1) (cell 1 2 0) ∷ [])
+    × (pushed_on (sweep (Some (grid Two r)) (grid Two r) 1 0 9 Forward) 1
+    ≡ passing (vertex 1 1 0) (cell 1 1 0) ∷ passing (vertex 1 1 1) (cell 1 1 1)
+    ∷ passing (vertex 1 1 2) (cell 1 1 2) ∷ passing (vertex 1 1 3) (cell 1 1 2) ∷ [])
+    × (pushed_on (sweep (Some (grid Two r)) (grid Two r) 1 0 9 Forward) 2
+    ≡ passing (vertex 1 0 2) (cell 1 0 2) ∷ passing (vertex 1 1 2) (cell 1 0 2)
+    ∷ passing (vertex 1 1 2) (cell 1 1 1) ∷ passing (vertex 1 2 2) (cell 1 1 1)
+    ∷ passing (vertex 1 2 2) (cell 1 2 2) ∷ passing (vertex 1 3 2) (cell 1 2 2) ∷ [])
+    × (pushed_on (sweep (Some (grid Two r)) (grid Two r) 1 0 9 Forward) 3
+    ≡ passing (vertex 1 0 1) (cell 1 0 1) ∷ passing (vertex 1 1 1) (cell 1 0 1)
+    ∷ passing (vertex 1 1 1) (cell 1 1 0) ∷ passing (vertex 1 2 1) (cell 1 1 0)
+    ∷ passing (vertex 1 2 1) (cell 1 2 1) ∷ passing (vertex 1 3 1) (cell 1 2 1) ∷ [])
 
 -- With the centre refined, the centre cell finds its own four vertices: three on lanes, by falling number, and the one of whose cells it is the first in the input.
 abbrev pub CentreFindsItsVertices : Type 0
-CentreFindsItsVertices = (r : Cells) → AreRefined r (root ∷ centre ∷ []) →
-    moves_at (sweep (Some (grid Two r)) (grid Two r) 2 0 81 Forward) (enter centre)
-    ≡ pop 2 (passing (vertex 1 2 2) centre) ∷ pop 2 (passing (vertex 1 1 2) centre) ∷ take (vertex 1 2 1) ∷ pop 1 (passing (vertex 1 1 1) centre) ∷ []
+CentreFindsItsVertices = (r : Cells) → AreRefined r (root ∷ centre ∷ [])
+    → moves_at (sweep (Some (grid Two r)) (grid Two r) 2 0 81 Forward) (enter centre)
+    ≡ pop 2 (passing (vertex 1 2 2) centre) ∷ pop 2 (passing (vertex 1 1 2) centre)
+    ∷ take (vertex 1 2 1) ∷ pop 1 (passing (vertex 1 1 1) centre) ∷ []

@@ -18,7 +18,8 @@ pub record IsHeldVertex (p : SweepPlan) (test : VertexKey → Bool) (v : VertexK
   pub held : (c : CellKey) × InRun (dim_of p) v p.range p.depth c
 
 -- a list has each vertex of the tree that passes a test, once
-pub record ListsVertices (p : SweepPlan) (test : VertexKey → Bool) (vs : List VertexKey) : Type 0 where
+pub record ListsVertices (p : SweepPlan) (test : VertexKey → Bool)
+    (vs : List VertexKey) : Type 0 where
   pub distinct : AreDistinct same_vertex vs
   pub members : (v : VertexKey) → IsIn v vs ↔ IsHeldVertex p test v
 
@@ -47,6 +48,7 @@ pushed_by ms = flat_map pushed_part ms
 
 -- The kept vertices of the tree can be listed, and the pushes are the sum of run length less one over them.
 abbrev pub PushesAreRunsLessOne : Type 0
-PushesAreRunsLessOne = (p : SweepPlan) → IsSweepPlan p →
-    ((vs : List VertexKey) × ListsVertices p (is_kept p) vs)
-    × ((vs : List VertexKey) → ListsVertices p (is_kept p) vs → length (pushed_by (moves_of p)) ≡ sum_by (λ v. length (held_round p v) - 1) vs)
+PushesAreRunsLessOne = (p : SweepPlan) → IsSweepPlan p
+    → ((vs : List VertexKey) × ListsVertices p (is_kept p) vs)
+    × ((vs : List VertexKey) → ListsVertices p (is_kept p) vs
+    → length (pushed_by (moves_of p)) ≡ sum_by (λ v. length (held_round p v) - 1) vs)

@@ -78,7 +78,8 @@ ParentsAreVisited = (p : SweepPlan) → IsSweepPlan p → (c : CellKey) → 0 < 
 
 -- the sweep the other way
 abbrev pub turned_plan : SweepPlan → SweepPlan
-turned_plan p = record { depth = p.depth; range = p.range; dir = turned_round p.dir; old = p.old; new = p.new }
+turned_plan p =
+    record { depth = p.depth; range = p.range; dir = turned_round p.dir; old = p.old; new = p.new }
 
 -- an enter is a leave the other way
 abbrev pub turned_visit : Visit → Visit

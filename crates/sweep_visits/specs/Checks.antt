@@ -23,13 +23,21 @@ vertex l a b = record { level = l; v = triple a b 0 }
 
 -- a plain sweep of a grid by a range
 abbrev pub plain : Cells → ℕ → ℕ → ℕ → Direction → SweepPlan
-plain r depth lo hi dir = record { depth = depth; range = record { lo = lo; hi = hi }; dir = dir; old = Some (record { dim = Two; refined = r }); new = record { dim = Two; refined = r } }
+plain r depth lo hi dir =
+    record {
+      depth = depth;
+      range = record { lo = lo; hi = hi };
+      dir = dir;
+      old = Some (record { dim = Two; refined = r });
+      new = record { dim = Two; refined = r };
+    }
 
 -- one cell alone: corners are taken by falling and put by rising number
 abbrev pub OneCell : Type 0
 OneCell = (r : Cells)
     → moves_of (plain r 0 0 1 Forward)
-    ≡ take (vertex 0 1 1) ∷ take (vertex 0 0 1) ∷ take (vertex 0 1 0) ∷ take (vertex 0 0 0) ∷ put (vertex 0 0 0) ∷ put (vertex 0 1 0) ∷ put (vertex 0 0 1) ∷ put (vertex 0 1 1) ∷ []
+    ≡ take (vertex 0 1 1) ∷ take (vertex 0 0 1) ∷ take (vertex 0 1 0) ∷ take (vertex 0 0 0)
+    ∷ put (vertex 0 0 0) ∷ put (vertex 0 1 0) ∷ put (vertex 0 0 1) ∷ put (vertex 0 1 1) ∷ []
 
 -- both of a cell's visits
 abbrev pub both : CellKey → List Visit → List Visit
@@ -38,14 +46,30 @@ both c vs = enter c ∷ leave c ∷ vs
 -- a root with nine children, in the order of the curve
 abbrev pub NineChildren : Type 0
 NineChildren = (r : Cells) → set.contains r root ≡ true
-    → (visits_of (plain r 1 0 9 Forward) ≡ enter (cell 0 0 0) ∷ both (cell 1 0 0) (both (cell 1 0 1) (both (cell 1 0 2) (both (cell 1 1 2) (both (cell 1 1 1) (both (cell 1 1 0) (both (cell 1 2 0) (both (cell 1 2 1) (both (cell 1 2 2) (leave (cell 0 0 0) ∷ []))))))))))
-    × (visits_of (plain r 1 3 5 Backward) ≡ enter (cell 0 0 0) ∷ both (cell 1 1 1) (both (cell 1 1 2) (leave (cell 0 0 0) ∷ [])))
+    → (visits_of (plain r 1 0 9 Forward)
+    ≡ enter (cell 0 0 0)
+    ∷ both (cell 1 0 0)
+    (both (cell 1 0 1)
+    (both (cell 1 0 2)
+    (both (cell 1 1 2)
+    (both (cell 1 1 1)
+    (both (cell 1 1 0)
+    (both (cell 1 2 0)
+    (both (cell 1 2 1)
+    (both (cell 1 2 2) (leave (cell 0 0 0) ∷ []))))))))))
+    × (visits_of (plain r 1 3 5 Backward)
+    ≡ enter (cell 0 0 0) ∷ both (cell 1 1 1) (both (cell 1 1 2) (leave (cell 0 0 0) ∷ [])))
 
 -- the middle one of nine children: three corners come from lanes, one from the input; then three go to lanes, one to the output
 abbrev pub MiddleChild : Type 0
 MiddleChild = (r : Cells) → set.contains r root ≡ true
-    → (moves_at (plain r 1 0 9 Forward) (enter (cell 1 1 1)) ≡ pop 2 (passing (vertex 1 2 2) (cell 1 1 1)) ∷ pop 2 (passing (vertex 1 1 2) (cell 1 1 1)) ∷ take (vertex 1 2 1) ∷ pop 1 (passing (vertex 1 1 1) (cell 1 1 1)) ∷ [])
-    × (moves_at (plain r 1 0 9 Forward) (leave (cell 1 1 1)) ≡ push 3 (passing (vertex 1 1 1) (cell 1 1 0)) ∷ push 3 (passing (vertex 1 2 1) (cell 1 1 0)) ∷ put (vertex 1 1 2) ∷ push 0 (passing (vertex 1 2 2) (cell 1 2 1)) ∷ [])
+    → (moves_at (plain r 1 0 9 Forward) (enter (cell 1 1 1))
+    ≡ pop 2 (passing (vertex 1 2 2) (cell 1 1 1)) ∷ pop 2 (passing (vertex 1 1 2) (cell 1 1 1))
+    ∷ take (vertex 1 2 1) ∷ pop 1 (passing (vertex 1 1 1) (cell 1 1 1)) ∷ [])
+    × (moves_at (plain r 1 0 9 Forward) (leave (cell 1 1 1))
+    ≡ push 3 (passing (vertex 1 1 1) (cell 1 1 0))
+    ∷ push 3 (passing (vertex 1 2 1) (cell 1 1 0)) ∷ put (vertex 1 1 2)
+    ∷ push 0 (passing (vertex 1 2 2) (cell 1 2 1)) ∷ [])
 
 -- the run of the vertex between four children, and its lanes
 abbrev pub RunOfFour : Type 0

@@ -18,5 +18,7 @@ LanesNeverMix = (p : SweepPlan) → IsSweepPlan p
 abbrev pub NextIsOfTheRun : Type 0
 NextIsOfTheRun = (p : SweepPlan) (v : VertexKey) (c : CellKey) → IsVertex (dim_of p) v
     → InRun (dim_of p) v p.range p.depth c
-    → MatchOption (next_in_run p v c) (IsLast p.dir (dim_of p) v p.range p.depth c) (λ q. Follows p.dir (dim_of p) v p.range p.depth c q)
-    × MatchOption (previous_in_run p v c) (IsFirst p.dir (dim_of p) v p.range p.depth c) (λ q. Follows p.dir (dim_of p) v p.range p.depth q c)
+    → MatchOption (next_in_run p v c) (IsLast p.dir (dim_of p) v p.range p.depth c)
+    (λ q. Follows p.dir (dim_of p) v p.range p.depth c q)
+    × MatchOption (previous_in_run p v c) (IsFirst p.dir (dim_of p) v p.range p.depth c)
+    (λ q. Follows p.dir (dim_of p) v p.range p.depth q c)

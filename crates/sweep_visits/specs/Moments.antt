@@ -17,7 +17,8 @@ pub record VertexLists : Type 0 where
 
 -- the passings that moves gave to a lane and did not take, in the order in which they were given
 abbrev pub passings_on : List Move → ℕ → List Passing
-passings_on ms k = without same_passing (popped (on_lane k (on_lanes ms))) (pushed (on_lane k (on_lanes ms)))
+passings_on ms k =
+    without same_passing (popped (on_lane k (on_lanes ms))) (pushed (on_lane k (on_lanes ms)))
 
 -- their vertices
 abbrev pub vertices_on : List Move → ℕ → List VertexKey
@@ -81,7 +82,8 @@ arrivals_below p c (suc n) = corner_in p c (corner_of c n) ++ arrivals_below p c
 -- what `more` corners from a number on move when their cell is left
 abbrev pub departures_from : SweepPlan → CellKey → ℕ → ℕ → List Move
 departures_from p c n zero = []
-departures_from p c n (suc more) = corner_out p c (corner_of c n) ++ departures_from p c (n + 1) more
+departures_from p c n (suc more) = corner_out p c (corner_of c n)
+    ++ departures_from p c (n + 1) more
 
 -- A visit moves its corners one after another.
 abbrev pub CornersInTurn : Type 0

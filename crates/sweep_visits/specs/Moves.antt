@@ -43,7 +43,8 @@ corner_out p c v = if is_kept p v then departs p v c (next_in_run p v c) else []
 
 -- what a visit moves: corners come by falling number and go by rising number
 abbrev pub moves_at : SweepPlan → Visit → List Move
-moves_at p (enter c) = flat_map (λ n. corner_in p c (corner_of c n)) (reverse (corner_numbers (dim_of p)))
+moves_at p (enter c) =
+    flat_map (λ n. corner_in p c (corner_of c n)) (reverse (corner_numbers (dim_of p)))
 moves_at p (leave c) = flat_map (λ n. corner_out p c (corner_of c n)) (corner_numbers (dim_of p))
 
 -- all moves of a sweep

@@ -33,7 +33,8 @@ earlier dim dir q (Some r) = if is_earlier dim dir r q then Some r else Some q
 -- the first of those cells of a list that come after `c`
 abbrev pub next_among : Dim → Direction → CellKey → List CellKey → Option CellKey
 next_among dim dir c [] = None
-next_among dim dir c (q ∷ qs) = if is_earlier dim dir c q then earlier dim dir q (next_among dim dir c qs) else next_among dim dir c qs
+next_among dim dir c (q ∷ qs) = if is_earlier dim dir c q
+    then earlier dim dir q (next_among dim dir c qs) else next_among dim dir c qs
 
 -- the cell at a position, where there is one that is held
 abbrev pub held_cell : (CellKey → Bool) → Option CellKey → List CellKey

@@ -22,7 +22,11 @@ module _ (dim : Dim) (dir : Direction) where
     -- the visits of a cell and of what lies below it, `levels` levels down
     abbrev pub visits_at : ℕ → CellKey → List Visit
     visits_at zero c = if visited c then enter c ∷ leave c ∷ [] else []
-    visits_at (suc levels) c = if visited c then enter c ∷ ((if opened c then from_child (visits_at levels) c 0 (children dim) else []) ++ leave c ∷ []) else []
+    visits_at (suc levels) c = if visited c
+        then enter c
+        ∷ ((if opened c then from_child (visits_at levels) c 0 (children dim) else [])
+        ++ leave c ∷ [])
+        else []
 
 -- the visits of a sweep
 abbrev pub visits_of : SweepPlan → List Visit

@@ -13,14 +13,18 @@ use Rattle.sweep_visits.specs.Moves.{Move, take, put, pop, push, passing, corner
 -- a left corner: at the last cell of the run the vertex is put to the output where the new grid stores it, else it is given up; at any other cell it is pushed, on its way to the next one, on the lane of the axis between the two
 abbrev pub Departs : SweepPlan → VertexKey → CellKey → List Move → Type 0
 Departs p v c ms =
-    (IsLast p.dir (dim_of p) v p.range p.depth c × (ms ≡ (if is_stored p.new v then put v ∷ [] else [])))
-    ⊎ ((q : CellKey) × (axis : ℕ) × Follows p.dir (dim_of p) v p.range p.depth c q × DifferOn (dim_of p) axis c q × (ms ≡ push (lane_from v axis) (passing v q) ∷ []))
+    (IsLast p.dir (dim_of p) v p.range p.depth c
+    × (ms ≡ (if is_stored p.new v then put v ∷ [] else [])))
+    ⊎ ((q : CellKey) × (axis : ℕ) × Follows p.dir (dim_of p) v p.range p.depth c q
+    × DifferOn (dim_of p) axis c q × (ms ≡ push (lane_from v axis) (passing v q) ∷ []))
 
 -- an entered corner: at the first cell of the run the vertex is taken from the input where the old grid stores it, else it is made; at any other cell it is popped from the lane of the axis to the one before
 abbrev pub Arrives : SweepPlan → VertexKey → CellKey → List Move → Type 0
 Arrives p v c ms =
-    (IsFirst p.dir (dim_of p) v p.range p.depth c × (ms ≡ (if is_stored_in p.old v then take v ∷ [] else [])))
-    ⊎ ((q : CellKey) × (axis : ℕ) × Follows p.dir (dim_of p) v p.range p.depth q c × DifferOn (dim_of p) axis c q × (ms ≡ pop (lane_from v axis) (passing v c) ∷ []))
+    (IsFirst p.dir (dim_of p) v p.range p.depth c
+    × (ms ≡ (if is_stored_in p.old v then take v ∷ [] else [])))
+    ⊎ ((q : CellKey) × (axis : ℕ) × Follows p.dir (dim_of p) v p.range p.depth q c
+    × DifferOn (dim_of p) axis c q × (ms ≡ pop (lane_from v axis) (passing v c) ∷ []))
 
 -- Each kept corner of a held cell has exactly one way out and one way in: that by the held run of its vertex.
 abbrev pub EachCornerHasOneWay : Type 0

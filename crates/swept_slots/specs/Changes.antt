@@ -17,7 +17,8 @@ use Rattle.step_phases.specs.Sweeps.{IsSweptRecord}
 use Rattle.swept_slots.specs.Copies.{copies}
 
 -- of a record the slot of one cell was changed as asked, and no other slot
-pub record ChangesOneCell (dim : Dim) (c : CellKey) (E : Slot → Slot → Type 0) (s t : VertexRecord) : Type 0 where
+pub record ChangesOneCell (dim : Dim) (c : CellKey) (E : Slot → Slot → Type 0)
+    (s t : VertexRecord) : Type 0 where
   pub own : (n : ℕ) → n < corners dim → adjacent_of dim s.key n ≡ Some c
       → E (slot_at s n) (slot_at t n)
   pub others : (n : ℕ) → n < corners dim → adjacent_of dim s.key n ≢ Some c
@@ -30,7 +31,8 @@ EachVisitChanges m E = (c : CellKey) (n : ℕ) (s t : Stored) → n < corners (d
     CellChanged m c n s t → ChangesOneCell (dim_of m.sweep.plan) c (E c) s t
 
 -- the slot of a cell that the tree holds is changed as asked, and that of any other cell stays
-pub record IfHeld (k : Cuts) (t : ℕ) (E : CellKey → Slot → Slot → Type 0) (c : CellKey) (old new : Slot) : Type 0 where
+pub record IfHeld (k : Cuts) (t : ℕ) (E : CellKey → Slot → Slot → Type 0) (c : CellKey)
+    (old new : Slot) : Type 0 where
   pub held : Held k t c → E c old new
   pub away : ¬ Held k t c → new ≡ old
 
@@ -41,6 +43,7 @@ pub record IsSweepOf (k : Cuts) (t : ℕ) (p : SweepPlan) : Type 0 where
   pub range : p.range ≡ range_of k t
 
 -- a vertex after a sweep: made from its record of the input where the old grid stores it, else from a new one
-pub record IsSweptVertex (k : Cuts) (p : SweepPlan) (E : CellKey → Slot → Slot → Type 0) (start end : List Stored) (v : VertexKey) : Type 0 where
+pub record IsSweptVertex (k : Cuts) (p : SweepPlan) (E : CellKey → Slot → Slot → Type 0)
+    (start end : List Stored) (v : VertexKey) : Type 0 where
   pub kept : IsStoredBefore p.old v → IsSweptRecord k E v (copies start v) (copies end v)
   pub made : ¬ IsStoredBefore p.old v → IsSweptRecord k E v (fresh k.dim v) (copies end v)

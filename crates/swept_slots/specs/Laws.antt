@@ -24,29 +24,38 @@ use Rattle.swept_slots.specs.Copies.{copies, IsCopy}
 use Rattle.swept_slots.specs.Changes.{EachVisitChanges, IfHeld, IsSweepOf, IsSweptVertex}
 
 -- a sweep of a tree, from one store to another
-pub record IsSweptTree {A : Type 0} (entered left : A → CellView → CellView → A → Type 0) (k : Cuts) (t : ℕ) (p : TreeSweep) (step : ℕ) (kind : Kind) (before after : TreeLists) (x y : A) (note : Note) : Type 0 where
+pub record IsSweptTree {A : Type 0} (entered left : A → CellView → CellView → A → Type 0) (k : Cuts)
+    (t : ℕ) (p : TreeSweep) (step : ℕ) (kind : Kind) (before after : TreeLists) (x y : A)
+    (note : Note) : Type 0 where
   pub sweep : IsTreeSweep p
   pub tree : IsSweepOf k t p.plan
   pub keys : map key_of before.lanes.input ≡ taken_by (moves_of p.plan)
-  pub gives : SweepGives entered left p step kind before.lanes.input before.lanes.tale after x y note
+  pub gives : SweepGives entered left p step kind before.lanes.input before.lanes.tale after x y
+      note
 
 -- Where the two calls at each cell change the slots of that cell alone, as a test allows, the sweep changes so, once, the slots of each cell that the tree holds, and no other slot.
-abbrev pub HeldCellsChange : {A : Type 0} → (A → CellView → CellView → A → Type 0) → (A → CellView → CellView → A → Type 0) → Type 0
+abbrev pub HeldCellsChange : {A : Type 0} → (A → CellView → CellView → A → Type 0)
+    → (A → CellView → CellView → A → Type 0) → Type 0
 HeldCellsChange entered left = (k : Cuts) (t : ℕ) (p : TreeSweep) (step : ℕ) (kind : Kind)
     (before after : TreeLists) (x y : _) (note : Note) (test : CellKey → Slot → Slot → Bool)
     → (tree : IsSweptTree entered left k t p step kind before after x y note)
-    → EachVisitChanges (with_calls (begun p before.lanes.input before.lanes.tale) tree.gives.calls) (λ c s u. test c s u ≡ true)
+    → EachVisitChanges (with_calls (begun p before.lanes.input before.lanes.tale) tree.gives.calls)
+    (λ c s u. test c s u ≡ true)
     → (v : VertexKey) → HasVertex k p.plan.new t v
-    → IsSweptVertex k p.plan (IfHeld k t (λ c s u. test c s u ≡ true)) before.lanes.input after.lanes.input v
+    → IsSweptVertex k p.plan
+    (IfHeld k t (λ c s u. test c s u ≡ true)) before.lanes.input after.lanes.input v
 
 -- In a sweep that changes no grid this leads from the copies before it to those after it.
-abbrev pub PlainCellsChange : {A : Type 0} → (A → CellView → CellView → A → Type 0) → (A → CellView → CellView → A → Type 0) → Type 0
+abbrev pub PlainCellsChange : {A : Type 0} → (A → CellView → CellView → A → Type 0)
+    → (A → CellView → CellView → A → Type 0) → Type 0
 PlainCellsChange entered left = (k : Cuts) (t : ℕ) (p : TreeSweep) (step : ℕ) (kind : Kind)
     (before after : TreeLists) (x y : _) (note : Note) (test : CellKey → Slot → Slot → Bool)
     → (tree : IsSweptTree entered left k t p step kind before after x y note)
     → p.plan.old ≡ Some p.plan.new
-    → EachVisitChanges (with_calls (begun p before.lanes.input before.lanes.tale) tree.gives.calls) (λ c s u. test c s u ≡ true)
-    → IsSwept k p.plan.new t (IfHeld k t (λ c s u. test c s u ≡ true)) (copies before.lanes.input) (copies after.lanes.input)
+    → EachVisitChanges (with_calls (begun p before.lanes.input before.lanes.tale) tree.gives.calls)
+    (λ c s u. test c s u ≡ true)
+    → IsSwept k p.plan.new t (IfHeld k t (λ c s u. test c s u ≡ true)) (copies before.lanes.input)
+    (copies after.lanes.input)
 
 -- Each vertex that a tree has in a grid has its copy in a store that has the lists of the grid,
 abbrev pub StoreHasCopies : Type 0

@@ -82,11 +82,18 @@ module _ (updated : UpdateRule) where
   -- a tree makes its next visit, where it has one
   abbrev pub visited_at : Core → ℕ → Tree → Option Stop → Option Core
   visited_at c i t None = None
-  visited_at c i t (Some s) = Some (record {
-    sweep = c.sweep;
-    trees = slice_set c.trees i (record { first = t.first; second = t.second; made = t.made + 1; tasks = tasks_after c.sweep t.tasks s });
-    answers = answers_after c.sweep c.answers s;
-  })
+  visited_at c i t (Some s) = Some
+      (record {
+        sweep = c.sweep;
+        trees = slice_set c.trees i
+            (record {
+              first = t.first;
+              second = t.second;
+              made = t.made + 1;
+              tasks = tasks_after c.sweep t.tasks s;
+            });
+        answers = answers_after c.sweep c.answers s;
+      })
 
   -- so of a tree that may not be there
   abbrev pub visited : Core → ℕ → Option Tree → Option Core
@@ -96,11 +103,18 @@ module _ (updated : UpdateRule) where
   -- the word of task k of tree i becomes w, and the answers a
   abbrev pub worded : Core → ℕ → ℕ → Tree → Offered → Answers → Option Word → Option Core
   worded c i k t o a None = None
-  worded c i k t o a (Some w) = Some (record {
-    sweep = c.sweep;
-    trees = slice_set c.trees i (record { first = t.first; second = t.second; made = t.made; tasks = slice_set t.tasks k (record { leaf = o.leaf; word = w }) });
-    answers = a;
-  })
+  worded c i k t o a (Some w) = Some
+      (record {
+        sweep = c.sweep;
+        trees = slice_set c.trees i
+            (record {
+              first = t.first;
+              second = t.second;
+              made = t.made;
+              tasks = slice_set t.tasks k (record { leaf = o.leaf; word = w });
+            });
+        answers = a;
+      })
 
   -- what an event does to the word and the leaf of a task
   pub record Move : Type 0 where
@@ -135,12 +149,16 @@ module _ (updated : UpdateRule) where
   in_sweep First c (Take actor i k) = moved c i k (slice_get c.trees i) (take_move actor)
   in_sweep First c (Publish actor i k) = moved c i k (slice_get c.trees i) (publish_move actor)
   in_sweep First c (Collect i k) = None
-  in_sweep First c Exchange = if all_made First c.trees then Some (record { sweep = Second; trees = map rewound c.trees; answers = c.answers }) else None
+  in_sweep First c Exchange = if all_made First c.trees
+      then Some (record { sweep = Second; trees = map rewound c.trees; answers = c.answers })
+      else None
   in_sweep Second c (Visit i) = visited c i (slice_get c.trees i)
   in_sweep Second c (Take actor i k) = moved c i k (slice_get c.trees i) (take_move actor)
   in_sweep Second c (Publish actor i k) = moved c i k (slice_get c.trees i) (publish_move actor)
   in_sweep Second c (Collect i k) = moved c i k (slice_get c.trees i) collect_move
-  in_sweep Second c Exchange = if all_made Second c.trees then Some (record { sweep = Over; trees = map rewound c.trees; answers = c.answers }) else None
+  in_sweep Second c Exchange = if all_made Second c.trees
+      then Some (record { sweep = Over; trees = map rewound c.trees; answers = c.answers })
+      else None
   in_sweep Over c e = None
 
   -- what an event does; none where it is not legal

@@ -27,28 +27,33 @@ pub record HasTask (c : Core) (i k : ℕ) (words : List ℕ) : Type 0 where
   pub shared : SharesWords c i words
 
 -- a step of the desk is an event: it succeeds exactly where the event is legal, and the desk shares the words of the core after the event
-pub record IsEvent (updated : UpdateRule) (c : Core) (i : ℕ) (e : Event) (won : Bool) (words : List ℕ) : Type 0 where
+pub record IsEvent (updated : UpdateRule) (c : Core) (i : ℕ) (e : Event) (won : Bool)
+    (words : List ℕ) : Type 0 where
   pub legal : won ≡ is_some (stepped updated c e)
   pub shared : SharesWords (or_skipped updated c (stepped updated c e)) i words
 
 -- the words after a compare and exchange of that of task k
 abbrev pub exchanged_at : List ℕ → ℕ → ℕ → ℕ → List ℕ
-exchanged_at words k old new = slice_set words (k + 1) (exchanged (slice_index words (k + 1)) old new)
+exchanged_at words k old new =
+    slice_set words (k + 1) (exchanged (slice_index words (k + 1)) old new)
 
 -- until the step is over, the compare and exchange of a claim is Take
 abbrev pub ClaimsAreTakes : Type 0
 ClaimsAreTakes = (updated : UpdateRule) (c : Core) (i k seat : ℕ) (words : List ℕ)
     → HasTask c i k words → c.sweep ≢ Over
-    → IsEvent updated c i (Take seat i k) (slice_index words (k + 1) == code Free) (exchanged_at words k (code Free) (code (Taken seat)))
+    → IsEvent updated c i (Take seat i k) (slice_index words (k + 1) == code Free)
+    (exchanged_at words k (code Free) (code (Taken seat)))
 
 -- and that of a publication is Publish
 abbrev pub PublicationsArePublish : Type 0
 PublicationsArePublish = (updated : UpdateRule) (c : Core) (i k seat : ℕ) (words : List ℕ)
     → HasTask c i k words → c.sweep ≢ Over
-    → IsEvent updated c i (Publish seat i k) (slice_index words (k + 1) == code (Taken seat)) (exchanged_at words k (code (Taken seat)) (code Published))
+    → IsEvent updated c i (Publish seat i k) (slice_index words (k + 1) == code (Taken seat))
+    (exchanged_at words k (code (Taken seat)) (code Published))
 
 -- in the second sweep the exchange of a collection is Collect; it is legal once
 abbrev pub CollectionsAreCollect : Type 0
 CollectionsAreCollect = (updated : UpdateRule) (c : Core) (i k : ℕ) (words : List ℕ)
     → HasTask c i k words → c.sweep ≡ Second
-    → IsEvent updated c i (Collect i k) (not (slice_index words (k + 1) == code Collected)) (slice_set words (k + 1) (code Collected))
+    → IsEvent updated c i (Collect i k) (not (slice_index words (k + 1) == code Collected))
+    (slice_set words (k + 1) (code Collected))

@@ -74,7 +74,8 @@ module _ (updated : UpdateRule) where
 -- how many events of a list are legal, each after those before it
 abbrev pub applied : UpdateRule → Core → List Event → ℕ
 applied updated c [] = 0
-applied updated c (e ∷ es) = (if is_some (stepped updated c e) then 1 else 0) + applied updated (or_skipped updated c (stepped updated c e)) es
+applied updated c (e ∷ es) = (if is_some (stepped updated c e) then 1 else 0)
+    + applied updated (or_skipped updated c (stepped updated c e)) es
 
 -- a core has run the first few events of a list, and not all of them
 abbrev pub RanSome : UpdateRule → Core → List Event → Core → Type 0
@@ -100,7 +101,8 @@ result_at c k = given (fin.get c.answers k)
 
 -- the exchange after a sweep, which begins another one: none where some tree has visits left
 abbrev pub turned_to : Sweep → Sweep → Core → Option Core
-turned_to s next c = if all_made s c.trees then Some (record { sweep = next; trees = map rewound c.trees; answers = c.answers }) else None
+turned_to s next c = if all_made s c.trees
+    then Some (record { sweep = next; trees = map rewound c.trees; answers = c.answers }) else None
 
 -- how many events a reply counts as applied
 abbrev pub applied_by : Reply → ℕ

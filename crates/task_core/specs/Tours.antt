@@ -34,7 +34,8 @@ abbrev pub ServedIn : Spacetree → States → List Stop → Type 0
 ServedIn g f ss = (n : ℕ) → IsFieldOn n g f → Each (IsServedStop n) ss
 
 -- stops were added that stand for visits
-pub record Adds (k : Cuts) (g : Spacetree) (f : States) (t : ℕ) (vs : List Visit) (old new : List Stop) : Type 0 where
+pub record Adds (k : Cuts) (g : Spacetree) (f : States) (t : ℕ) (vs : List Visit)
+    (old new : List Stop) : Type 0 where
   pub stops : List Stop
   pub are : AreStops k g f t vs stops
   pub served : ServedIn g f stops
@@ -46,4 +47,5 @@ Tours r vs old new = Adds (cuts_in r) r.grid.now r.field.now r.tree vs old new
 
 -- a position round a vertex shows a border: the grid has no cell there, or a refined one
 abbrev pub IsBroken : Spacetree → VertexKey → ℕ → Type 0
-IsBroken g v n = IsSomeAnd (adjacent_of g.dim v n) (λ q. (has_cell g q ≡ false) ⊎ (is_refined g q ≡ true))
+IsBroken g v n =
+    IsSomeAnd (adjacent_of g.dim v n) (λ q. (has_cell g q ≡ false) ⊎ (is_refined g q ≡ true))

@@ -18,7 +18,8 @@ use Rattle.task_core.specs.Core.{Tree, Core}
 
 -- a sweep of a tree over one grid
 abbrev pub plan_of : Cuts → Spacetree → ℕ → Direction → SweepPlan
-plan_of k g t dir = record { depth = k.depth; range = range_of k t; dir = dir; old = Some g; new = g }
+plan_of k g t dir =
+    record { depth = k.depth; range = range_of k t; dir = dir; old = Some g; new = g }
 
 -- a leaf with its state and its sides in the opening field
 abbrev pub leaf_of : Spacetree → States → CellKey → Leaf

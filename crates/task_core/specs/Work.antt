@@ -73,4 +73,5 @@ changed f ts i = record ts { trees = changed_at f ts.trees i (slice_get ts.trees
 
 -- a core in which the tree in a place is changed, and the answers are others
 abbrev pub with_tree : (Tree → Tree) → Core → ℕ → Answers → Core
-with_tree f c i a = record { sweep = c.sweep; trees = changed_at f c.trees i (slice_get c.trees i); answers = a }
+with_tree f c i a =
+    record { sweep = c.sweep; trees = changed_at f c.trees i (slice_get c.trees i); answers = a }

@@ -35,7 +35,8 @@ impl<S: Solver> Core<S> {
     // Makes the next visit of a tree, which passes by.
     fn pass(&mut self, tree: u32) -> Reply
         requires { IsSome (next_in self.old.sweep (slice_get self.old.forest.trees tree)) }
-        ensures reply { Replies (Some (with_tree passed (core_of self.old) tree self.old.answers)) (core_of self.old) result (core_of self.new) }
+        ensures reply { Replies (Some (with_tree passed (core_of self.old) tree self.old.answers))
+            (core_of self.old) result (core_of self.new) }
         ensures solver { solver_of self.new ≡ solver_of self.old }
     {
         self.forest.pass(self.sweep, tree);
@@ -174,7 +175,8 @@ impl<S: Solver> Core<S> {
 
     // The exchange after a sweep, which begins another one.
     fn exchange(&mut self, made: Sweep, next: Sweep) -> Reply
-        ensures reply { Replies (turned_to made next (core_of self.old)) (core_of self.old) result (core_of self.new) }
+        ensures reply { Replies (turned_to made next (core_of self.old)) (core_of self.old) result
+            (core_of self.new) }
         ensures solver { solver_of self.new ≡ solver_of self.old }
     {
         if !self.forest.has_made_all(made) {
@@ -237,9 +239,15 @@ impl<S: Solver> Core<S> {
     /// All events of a list, one after another: how many of them were applied. After a refusal it has run the first few of
     /// them.
     pub fn run(&mut self, events: &[Event]) -> Result<u64, AllocError>
-        ensures core { IfOk result (λ _. core_of self.new ≡ run (S.updated (solver_of self.old)) (core_of self.old) events.now) }
-        ensures count { IfOk result (λ count. count ≡ applied (S.updated (solver_of self.old)) (core_of self.old) events.now) }
-        ensures err { OnErr result (RanSome (S.updated (solver_of self.old)) (core_of self.old) events.now (core_of self.new)) }
+        ensures core { IfOk result
+            (λ _. core_of self.new
+            ≡ run (S.updated (solver_of self.old)) (core_of self.old) events.now) }
+        ensures count { IfOk result
+            (λ count. count
+            ≡ applied (S.updated (solver_of self.old)) (core_of self.old) events.now) }
+        ensures err { OnErr result
+            (RanSome (S.updated (solver_of self.old)) (core_of self.old) events.now
+            (core_of self.new)) }
         ensures solver { solver_of self.new ≡ solver_of self.old }
     {
         let mut applied = 0;

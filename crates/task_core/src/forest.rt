@@ -57,7 +57,8 @@ impl Forest {
     pub(crate) fn offer(&mut self, sweep: Sweep, tree: u32, leaf: Leaf) -> Result<(), AllocError>
         requires next { IsSome (next_in sweep (slice_get self.old.trees tree)) }
         requires served { IsServed self.old.parts leaf }
-        ensures ok { OnOk result (self.new ≡ changed (λ t. passed (offering leaf t)) self.old tree) }
+        ensures ok { OnOk result
+            (self.new ≡ changed (λ t. passed (offering leaf t)) self.old tree) }
         ensures err { OnErr result (self.new ≡ self.old) }
     {
         let work = &mut self.trees[tree as usize];

@@ -43,7 +43,8 @@ fn begin_tree(
 ) -> Result<TreeWork, AllocError>
     requires grid { IsCutGrid (cuts_of keys.now) grid.now }
     requires tree { tree < (cuts_of keys.now).trees }
-    ensures begins { IfOk result (λ work. BeginsTree (cuts_of keys.now) grid.now field.now tree dir work) }
+    ensures begins { IfOk result
+        (λ work. BeginsTree (cuts_of keys.now) grid.now field.now tree dir work) }
     ensures served { IfOk result (λ work. (n : ℕ) → IsFieldOn n grid.now field.now
         → IsServedTree n work) }
 {
@@ -76,7 +77,8 @@ fn begin_trees(
 ) -> Result<Vec<TreeWork>, AllocError>
     requires { IsCutGrid (cuts_of keys.now) grid.now }
     ensures count { IfOk result (λ trees. length trees.items ≡ (cuts_of keys.now).trees) }
-    ensures begin { IfOk result (λ trees. BeginTrees (cuts_of keys.now) grid.now field.now dir trees.items) }
+    ensures begin { IfOk result
+        (λ trees. BeginTrees (cuts_of keys.now) grid.now field.now dir trees.items) }
     ensures served { IfOk result (λ trees. (n : ℕ) → IsFieldOn n grid.now field.now
         → AreServed n trees.items) }
 {
@@ -106,7 +108,8 @@ impl<S: Solver> Core<S> {
         requires keys { keys.now.depth ≡ depth }
         requires dim { grid.now.dim ≡ keys.now.dim }
         requires field { IsFieldOn (S.parts_of solver) grid.now field.now }
-        ensures begins { IfOk result (λ core. Begins (cuts_of keys.now) grid.now field.now dir (core_of core)) }
+        ensures begins { IfOk result
+            (λ core. Begins (cuts_of keys.now) grid.now field.now dir (core_of core)) }
         ensures solver { IfOk result (λ core. solver_of core ≡ solver) }
 
         // So the laws of cores hold for it: it opens the field, and has all leaves of the grid.

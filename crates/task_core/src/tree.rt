@@ -23,13 +23,19 @@ impl Model for TreeWork {
 
     ghost Value = { Tree };
 
-    ghost view = { λ t. record { first = t.first.items; second = t.second.items; made = t.made; tasks = t.tasks.items } };
+    ghost view = { λ t. record {
+      first = t.first.items;
+      second = t.second.items;
+      made = t.made;
+      tasks = t.tasks.items;
+    } };
 }
 
 impl TreeWork {
     // A tree before its first visit.
     pub(crate) fn begin(alloc: Global, first: Vec<Stop>, second: Vec<Stop>) -> TreeWork
-        ensures { result ≡ record { first = first.items; second = second.items; made = 0; tasks = [] } }
+        ensures { result
+            ≡ record { first = first.items; second = second.items; made = 0; tasks = [] } }
     {
         TreeWork {
             first,

@@ -51,7 +51,8 @@ impl<'a> Tour<'a> {
         requires tour { IsTour self.now }
         requires cell { IsCell self.now.grid.now.dim cell }
         requires there { has_cell self.now.grid.now cell ≡ true }
-        ensures stop { EntersWith (cuts_in self.now) self.now.grid.now self.now.field.now self.now.tree cell result }
+        ensures stop { EntersWith
+            (cuts_in self.now) self.now.grid.now self.now.field.now self.now.tree cell result }
         ensures served { ServedIn self.now.grid.now self.now.field.now (result ∷ []) }
     {
         if self.grid.is_refined(&cell) {
@@ -73,7 +74,8 @@ impl<'a> Tour<'a> {
         requires tour { IsTour self.now }
         requires cell { IsCell self.now.grid.now.dim cell }
         requires there { has_cell self.now.grid.now cell ≡ true }
-        ensures { OnOk result (Tours self.now (cell_visits (plan_in self.now) cell) stops.old.items stops.new.items) }
+        ensures { OnOk result
+            (Tours self.now (cell_visits (plan_in self.now) cell) stops.old.items stops.new.items) }
     {
         if !self.keys.held(cell, self.tree) {
             return Ok(());
@@ -89,7 +91,9 @@ impl<'a> Tour<'a> {
     fn add_below(&self, cell: CellKey, stops: &mut Vec<Stop>) -> Result<(), AllocError>
         requires tour { IsTour self.now }
         requires cell { IsCell self.now.grid.now.dim cell }
-        ensures { OnOk result (Tours self.now (visits_below (plan_in self.now) cell) stops.old.items stops.new.items) }
+        ensures { OnOk result
+            (Tours self.now
+            (visits_below (plan_in self.now) cell) stops.old.items stops.new.items) }
     {
         if !self.grid.is_refined(&cell) {
             return Ok(());
@@ -105,7 +109,9 @@ impl<'a> Tour<'a> {
         requires cell { IsCell self.now.grid.now.dim child }
         requires below { 1 ≤ child.level }
         requires parent { is_refined self.now.grid.now (parent_of child) ≡ true }
-        ensures { OnOk result (Tours self.now (visits_rest (plan_in self.now) child) stops.old.items stops.new.items) }
+        ensures { OnOk result
+            (Tours self.now
+            (visits_rest (plan_in self.now) child) stops.old.items stops.new.items) }
     {
         self.add_cell(child, stops)?;
         match next_child(self.grid.dim(), child, self.dir) {
@@ -117,8 +123,11 @@ impl<'a> Tour<'a> {
     // All visits of the sweep.
     pub(crate) fn stops(&self, alloc: Global) -> Result<Vec<Stop>, AllocError>
         requires { IsTour self.now }
-        ensures stops { IfOk result (λ stops. AreStops (cuts_in self.now) self.now.grid.now self.now.field.now self.now.tree (visits_of (plan_in self.now)) stops.items) }
-        ensures served { IfOk result (λ stops. ServedIn self.now.grid.now self.now.field.now stops.items) }
+        ensures stops { IfOk result
+            (λ stops. AreStops (cuts_in self.now) self.now.grid.now self.now.field.now self.now.tree
+            (visits_of (plan_in self.now)) stops.items) }
+        ensures served { IfOk result
+            (λ stops. ServedIn self.now.grid.now self.now.field.now stops.items) }
     {
         let mut stops = Vec::new(alloc);
         self.add_cell(root(), &mut stops)?;

@@ -24,7 +24,8 @@ module _ {S : Type 0} {g : Ghosts S} where
         → IsPostAt (slice_index_or trees i x) i (slice_index_or h.posts.items i y)
 
   -- a new hand of a tree
-  pub record IsNewHand (t : Tree S g) (tree : ℕ) (solver : S) (workers : ℕ) (h : TreeHand S g) : Type 0 where
+  pub record IsNewHand (t : Tree S g) (tree : ℕ) (solver : S) (workers : ℕ)
+      (h : TreeHand S g) : Type 0 where
     pub tree_is : h.tree ≡ tree
     pub seat : IsSeatOf t.desk h.seat
     pub view : view_of h.seat ≡ newcomer solver 0 (workers + 1)
@@ -32,7 +33,8 @@ module _ {S : Type 0} {g : Ghosts S} where
     pub none : h.spawned ≡ 0
 
   -- the first n trees of the pool, with their hands, and each helper's places at them
-  pub record IsBuilt (tasks : List ℕ) (workers : ℕ) (solver : S) (n : ℕ) (b : Building S g) : Type 0 where
+  pub record IsBuilt (tasks : List ℕ) (workers : ℕ) (solver : S) (n : ℕ)
+      (b : Building S g) : Type 0 where
     pub trees : vec_len b.trees ≡ n
     pub sizes : (i : ℕ) (x : Tree S g) → i < n
         → size_of (slice_index_or b.trees.items i x).desk ≡ slice_index tasks i
@@ -42,7 +44,8 @@ module _ {S : Type 0} {g : Ghosts S} where
     pub most : b.total ≤ n * 2 ^ 32
     pub hands : vec_len b.hands ≡ n
     pub hand : (i : ℕ) (x : Tree S g) (y : TreeHand S g) → i < n
-        → IsNewHand (slice_index_or b.trees.items i x) i solver workers (slice_index_or b.hands.items i y)
+        → IsNewHand (slice_index_or b.trees.items i x) i solver workers
+        (slice_index_or b.hands.items i y)
     pub helpers : vec_len b.helpers ≡ workers
     pub helper : (j : ℕ) (h : Helper S g) → j < workers
         → IsPlaced b.trees.items n (slice_index_or b.helpers.items j h)

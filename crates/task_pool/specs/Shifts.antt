@@ -33,4 +33,9 @@ pub record EndsAfter (all : ℕ) (rounds : List ℕ) : Type 0 where
 
 -- what stands after one round more
 abbrev pub after_round : Shift → Work → Shift
-after_round s w = record { quiet = if w.taken == 0 then s.quiet + 1 else 0; taken = s.taken + w.taken; published = s.published + w.published }
+after_round s w =
+    record {
+      quiet = if w.taken == 0 then s.quiet + 1 else 0;
+      taken = s.taken + w.taken;
+      published = s.published + w.published;
+    }

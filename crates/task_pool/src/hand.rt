@@ -69,7 +69,8 @@ impl<S: Updates> TreeHand<S> {
         ensures hand { IsHandOf pool.now self.new }
         ensures tree { tree_of self.new ≡ tree_of self.old }
         ensures spawned { spawned_of self.new ≡ spawned_of self.old }
-        ensures answer { result ≡ S.updated solver.now task.now.own task.now.sides task.now.key.level }
+        ensures answer { result
+            ≡ S.updated solver.now task.now.own task.now.sides task.now.key.level }
         ensures collected { Collects task.now.task (hand_view self.old) (hand_view self.new) }
     {
         let desk = &pool.trees[self.tree as usize].desk;

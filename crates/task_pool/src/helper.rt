@@ -41,7 +41,8 @@ impl<S: Updates> Helper<S> {
         ensures taken { taken_by self.old + result ≤ taken_by self.new }
         ensures rounds { (rounds : List ℕ) × EndsAfter (task_count pool.now) rounds
             × (taken_by self.new ≡ taken_by self.old + taken_in rounds) }
-        ensures most { taken_by self.new ≤ taken_by self.old + task_count pool.now + tree_count pool.now }
+        ensures most { taken_by self.new
+            ≤ taken_by self.old + task_count pool.now + tree_count pool.now }
     {
         let mut shift = Shift::new();
         'rounds: while !shift.is_over(pool.total) {

@@ -92,7 +92,8 @@ impl<S: Updates> Building<S> {
         requires small { slice_index tasks.now (vec_len self.old.trees) < 2 ^ 32 - 1 }
         requires workers { workers < 2 ^ 32 - 1 }
         requires built { IsBuilt tasks.now workers solver.now (vec_len self.old.trees) self.old }
-        ensures { IfOk result (λ _. IsBuilt tasks.now workers solver.now (vec_len self.old.trees + 1) self.new) }
+        ensures { IfOk result
+            (λ _. IsBuilt tasks.now workers solver.now (vec_len self.old.trees + 1) self.new) }
     {
         let tree = self.trees.len() as u32;
         let size = tasks[tree as usize];

@@ -19,7 +19,8 @@ impl<S: Updates> Post<S> {
         requires { IsPassOf (stealer_deque at.now.stealer) self.old.pass }
         ensures pass { IsPassOf (stealer_deque at.now.stealer) self.new.pass }
         ensures seat { self.new.seat ≡ self.old.seat }
-        ensures taken { MatchOption result (view self.new.pass ≡ view self.old.pass) (λ job. (view self.new.pass).taken ≡ (view self.old.pass).taken ++ job ∷ []) }
+        ensures taken { MatchOption result (view self.new.pass ≡ view self.old.pass)
+            (λ job. (view self.new.pass).taken ≡ (view self.old.pass).taken ++ job ∷ []) }
     {
         match at.stealer.steal_as::<Takes>(&mut self.pass) {
             Steal::Success(job) => Some(job),
@@ -30,11 +31,13 @@ impl<S: Updates> Post<S> {
     /// Claims a task that was taken, computes it and publishes its result. True where it published.
     fn compute<G: Gate>(&mut self, at: &Tree<S>, tree: u32, solver: &S, gate: &G, job: Job) -> bool
         requires post { IsPostAt at.now tree self.old }
-        requires taken { 0 < count (is_task job.task.tree job.task.task) (view self.old.pass).taken }
+        requires taken { 0
+            < count (is_task job.task.tree job.task.task) (view self.old.pass).taken }
         requires solver { desk_solver at.now.desk ≡ solver.now }
         ensures post { IsPostAt at.now tree self.new }
         ensures pass { self.new.pass ≡ self.old.pass }
-        ensures published { length (view_of self.new.seat).published ≡ length (view_of self.old.seat).published + (if result then 1 else 0) }
+        ensures published { length (view_of self.new.seat).published
+            ≡ length (view_of self.old.seat).published + (if result then 1 else 0) }
     {
         let task = job.task;
         let number = task.task;
@@ -55,8 +58,10 @@ impl<S: Updates> Post<S> {
         requires solver { desk_solver at.now.desk ≡ solver.now }
         ensures post { IsPostAt at.now tree self.new }
         ensures few { (result.published ≤ result.taken) × (result.taken ≤ 1) }
-        ensures published { length (view_of self.new.seat).published ≡ length (view_of self.old.seat).published + result.published }
-        ensures taken { length (view self.new.pass).taken ≡ length (view self.old.pass).taken + result.taken }
+        ensures published { length (view_of self.new.seat).published
+            ≡ length (view_of self.old.seat).published + result.published }
+        ensures taken { length (view self.new.pass).taken
+            ≡ length (view self.old.pass).taken + result.taken }
     {
         let Some(job) = self.take(at) else {
             return Work {

@@ -34,7 +34,8 @@ impl Shift {
 
     /// Whether it ends, where all desks have `all` tasks.
     pub(crate) fn is_over(&self, all: u64) -> bool
-        ensures { MatchBool result (IsOver all self.now.quiet self.now.taken) (GoesOn all self.now.quiet self.now.taken) }
+        ensures { MatchBool result (IsOver all self.now.quiet self.now.taken)
+            (GoesOn all self.now.quiet self.now.taken) }
     {
         PATIENCE <= self.quiet || all <= self.taken
     }

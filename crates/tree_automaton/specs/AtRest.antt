@@ -49,24 +49,29 @@ pub record HasLists (p : SweepPlan) (number : ℕ) (s : TreeLists) : Type 0 wher
 
 -- the plan of a sweep that changes no grid
 abbrev pub plain_plan : ℕ → Range → Direction → Spacetree → SweepPlan
-plain_plan depth range dir t = record { depth = depth; range = range; dir = dir; old = Some t; new = t }
+plain_plan depth range dir t =
+    record { depth = depth; range = range; dir = dir; old = Some t; new = t }
 
 -- the plan of a sweep that raises a grid
 abbrev pub raising_plan : ℕ → Range → Direction → Spacetree → SweepPlan
-raising_plan depth range dir t = record { depth = depth; range = range; dir = dir; old = None; new = t }
+raising_plan depth range dir t =
+    record { depth = depth; range = range; dir = dir; old = None; new = t }
 
 -- A live store at rest stands for a tree, a grid, a field and a direction: each vertex says of each cell round it its status and its value, and nothing is intended.
-pub record StandsFor (depth : ℕ) (range : Range) (tree : ℕ) (dir : Direction) (t : Spacetree) (f : States) (s : TreeLists) : Type 0 where
+pub record StandsFor (depth : ℕ) (range : Range) (tree : ℕ) (dir : Direction) (t : Spacetree)
+    (f : States) (s : TreeLists) : Type 0 where
   pub lists : HasLists (plain_plan depth range dir t) tree s
   pub slots : All (IsAtRest t f) s.lanes.input
 
 -- A live store before an adaptation: its vertices have the intents by which the next grid is made, and values are free.
-pub record StandsBefore (depth : ℕ) (range : Range) (tree : ℕ) (dir : Direction) (old new : Spacetree) (s : TreeLists) : Type 0 where
+pub record StandsBefore (depth : ℕ) (range : Range) (tree : ℕ) (dir : Direction)
+    (old new : Spacetree) (s : TreeLists) : Type 0 where
   pub lists : HasLists (plain_plan depth range dir old) tree s
   pub slots : All (IsBeforeAdapting old new) s.lanes.input
 
 -- a store that holds nothing, as one is made: live and forward
-pub record IsEmpty (depth : ℕ) (range : Range) (number : ℕ) (dim : Dim) (s : TreeLists) : Type 0 where
+pub record IsEmpty (depth : ℕ) (range : Range) (number : ℕ) (dim : Dim)
+    (s : TreeLists) : Type 0 where
   pub dim_is : s.lanes.dim ≡ dim
   pub depth_is : s.depth ≡ depth
   pub range_is : s.range ≡ range
@@ -85,7 +90,8 @@ pub record IsEmpty (depth : ℕ) (range : Range) (number : ℕ) (dim : Dim) (s :
   pub stored : s.stored ≡ 0
 
 -- a sweep of a plan over a tree and a field that a store can be asked for
-pub record CanSweep (plan : SweepPlan) (number : ℕ) (field : States) (meaning : Meaning) (kind : Kind) (s : TreeLists) : Type 0 where
+pub record CanSweep (plan : SweepPlan) (number : ℕ) (field : States) (meaning : Meaning)
+    (kind : Kind) (s : TreeLists) : Type 0 where
   pub sweep : TreeSweep
   pub plan_is : sweep.plan ≡ plan
   pub tree_is : sweep.tree ≡ number

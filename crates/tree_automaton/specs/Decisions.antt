@@ -24,7 +24,8 @@ pub record IsCourse (p : TreeSweep) (course : Course) : Type 0 where
   pub serves : p.serves ≡ course.serves
 
 -- what decides: a visited cell, and its parent's view
-pub record Decides (p : TreeSweep) (course : Course) (parent : Option CellView) (c : CellKey) : Type 0 where
+pub record Decides (p : TreeSweep) (course : Course) (parent : Option CellView)
+    (c : CellKey) : Type 0 where
   pub sweep : IsTreeSweep p
   pub is : IsCourse p course
   pub above : ParentFits p c parent

@@ -70,4 +70,5 @@ EachRecordHasAJourney = (p : TreeSweep) (start : List Stored) (tale : Tale) (cal
     → (w : VertexKey) (to : Option CellKey) (s : Stored)
     (left : WasLeft (with_calls (begun p start tale) calls) w to s)
     → (number : ℕ) × (before : Stored) × (stops : List Stop)
-    × IsJourney (with_calls (begun p start tale) calls) w (record { cell = left.cell; number = number; before = before; after = s }) stops
+    × IsJourney (with_calls (begun p start tale) calls) w
+    (record { cell = left.cell; number = number; before = before; after = s }) stops

@@ -20,6 +20,7 @@ note_of p kind step t = record {
 }
 
 -- the note counts what the sweep moves, and stands in the tale
-pub record IsNoted (p : SweepPlan) (kind : Kind) (step t : ℕ) (before after : Tale) (note : Note) : Type 0 where
+pub record IsNoted (p : SweepPlan) (kind : Kind) (step t : ℕ) (before after : Tale)
+    (note : Note) : Type 0 where
   pub counts : note ≡ note_of p kind step t
   pub tale : after ≡ with_note before note

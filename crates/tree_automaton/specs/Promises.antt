@@ -100,12 +100,14 @@ MarksSlot key k s t = (t.status ≡ s.status) × (t.value ≡ s.value)
 abbrev pub MayEnter : Serves → Spacetree → CellView → CellView → Type 0
 MayEnter Raising grid v w = EachSlot (RaisesSlot grid) v w
 MayEnter Adapting grid v w = EachSlot (AdaptsSlot grid v.key) v w
-    × ((depth : ℕ) (old : Spacetree) → KnowsStep depth old grid v → EachSlot (TellsNewStatus grid v.key) v w)
+    × ((depth : ℕ) (old : Spacetree) → KnowsStep depth old grid v
+    → EachSlot (TellsNewStatus grid v.key) v w)
 MayEnter Plain grid v w = EachSlot MarksSlot v w
 
 -- what a visitor may change in the slots of a view at the leave of a cell
 abbrev pub MayLeave : Serves → Spacetree → CellView → CellView → Type 0
-MayLeave Raising grid v w = EachSlot (λ key k s t. (t.intent ≡ s.intent) × (t.status ≡ s.status)) v w
+MayLeave Raising grid v w =
+    EachSlot (λ key k s t. (t.intent ≡ s.intent) × (t.status ≡ s.status)) v w
 MayLeave Adapting grid v w = MayEnter Adapting grid v w
 MayLeave Plain grid v w = MayEnter Plain grid v w
 

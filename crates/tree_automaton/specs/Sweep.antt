@@ -27,6 +27,7 @@ served_by kind.Raise = Raising
 served_by kind.Show = Plain
 served_by kind.Primary = Plain
 served_by kind.Secondary = Plain
+served_by kind.Recut = Plain
 served_by kind.Adapt = Adapting
 
 -- whether slots tell of the new grid besides the old one
@@ -58,7 +59,8 @@ record_in p c = record { refined = is_refined_in p.plan.old c; task = p.task c }
 
 -- the tree owns a cell whose centre lies in its range
 abbrev pub is_owned : SweepPlan → CellKey → Bool
-is_owned p c = nat_le p.range.lo (centre_of (dim_of p) c p.depth) && nat_lt (centre_of (dim_of p) c p.depth) p.range.hi
+is_owned p c = nat_le p.range.lo (centre_of (dim_of p) c p.depth)
+    && nat_lt (centre_of (dim_of p) c p.depth) p.range.hi
 
 -- a leaf of the new grid that the tree owns
 abbrev pub is_owned_leaf : SweepPlan → CellKey → Bool

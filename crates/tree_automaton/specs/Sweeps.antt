@@ -104,7 +104,8 @@ ParentWasEntered m c None = Unit {0}
 ParentWasEntered m c (Some view) = WasEntered m (parent_of c) view
 
 -- what the walk of a cell and all below it asks: a cell of one of the grids, whose visits come next
-pub record WalkAsks (m : Story) (meaning : Meaning) (made more : List Visit) (parent : Option CellView) (c : CellKey) (kind : Kind) (s : TreeLists) : Type 0 where
+pub record WalkAsks (m : Story) (meaning : Meaning) (made more : List Visit)
+    (parent : Option CellView) (c : CellKey) (kind : Kind) (s : TreeLists) : Type 0 where
   pub before : IsBefore m.sweep parent c kind s
   pub above : ParentWasEntered m c parent
   pub for_sweep : IsFor m.sweep meaning
@@ -113,14 +114,17 @@ pub record WalkAsks (m : Story) (meaning : Meaning) (made more : List Visit) (pa
 
 -- the visits of all below a cell
 abbrev pub visits_below : SweepPlan → CellKey → List Visit
-visits_below p c = if is_opened p c then from_child (dim_of p) p.dir (cell_visits p) c 0 (children (dim_of p)) else []
+visits_below p c = if is_opened p c
+    then from_child (dim_of p) p.dir (cell_visits p) c 0 (children (dim_of p)) else []
 
 -- the visits of a child, the siblings after it and all below them
 abbrev pub visits_rest : SweepPlan → CellKey → List Visit
-visits_rest p c = from_child (dim_of p) p.dir (cell_visits p) (parent_of c) (place_along p.dir (dim_of p) c) (children (dim_of p) - place_along p.dir (dim_of p) c)
+visits_rest p c = from_child (dim_of p) p.dir (cell_visits p) (parent_of c)
+    (place_along p.dir (dim_of p) c) (children (dim_of p) - place_along p.dir (dim_of p) c)
 
 -- what the walk of some visits below a cell asks
-pub record BelowAsks (m : Story) (meaning : Meaning) (made more : List Visit) (c : CellKey) (view : CellView) (visits : List Visit) (kind : Kind) (s : TreeLists) : Type 0 where
+pub record BelowAsks (m : Story) (meaning : Meaning) (made more : List Visit) (c : CellKey)
+    (view : CellView) (visits : List Visit) (kind : Kind) (s : TreeLists) : Type 0 where
   pub served : served_by kind ≡ m.sweep.serves
   pub sweep : IsTreeSweep m.sweep
   pub of : IsStoreOf m.sweep s
@@ -130,7 +134,8 @@ pub record BelowAsks (m : Story) (meaning : Meaning) (made more : List Visit) (c
   pub during : IsDuring m made (visits ++ more) s
 
 -- what visits give: a chain of calls at the visits, and the store after them
-pub record VisitsGive {A : Type 0} (entered left : A → CellView → CellView → A → Type 0) (m : Story) (made visits more : List Visit) (t : TreeLists) (x y : A) : Type 0 where
+pub record VisitsGive {A : Type 0} (entered left : A → CellView → CellView → A → Type 0) (m : Story)
+    (made visits more : List Visit) (t : TreeLists) (x y : A) : Type 0 where
   pub calls : List Call
   pub visits_are : map visit_of calls ≡ visits
   pub chain : Chain entered left calls x y
@@ -184,7 +189,8 @@ pub record IsAtRestFor (p : TreeSweep) (s : TreeLists) : Type 0 where
   pub stored : s.stored ≡ capped (length s.lanes.input)
 
 -- what a sweep asks
-pub record SweepAsks (p : TreeSweep) (meaning : Meaning) (kind : Kind) (s : TreeLists) : Type 0 where
+pub record SweepAsks (p : TreeSweep) (meaning : Meaning) (kind : Kind)
+    (s : TreeLists) : Type 0 where
   pub served : served_by kind ≡ p.serves
   pub sweep : IsTreeSweep p
   pub for_sweep : IsFor p meaning
@@ -196,7 +202,9 @@ begun p start tale = record { sweep = p; start = start; tale = tale; calls = [] 
 
 -- What a sweep gives: a chain of calls at all visits in order, each with a view that fits; the note of what was moved; and a store of what was left last,
 -- which is read from its end, the other way.
-pub record SweepGives {A : Type 0} (entered left : A → CellView → CellView → A → Type 0) (p : TreeSweep) (step : ℕ) (kind : Kind) (start : List Stored) (tale : Tale) (t : TreeLists) (x y : A) (note : Note) : Type 0 where
+pub record SweepGives {A : Type 0} (entered left : A → CellView → CellView → A → Type 0)
+    (p : TreeSweep) (step : ℕ) (kind : Kind) (start : List Stored) (tale : Tale) (t : TreeLists)
+    (x y : A) (note : Note) : Type 0 where
   pub calls : List Call
   pub visits_are : map visit_of calls ≡ visits_of p.plan
   pub chain : Chain entered left calls x y
@@ -205,7 +213,8 @@ pub record SweepGives {A : Type 0} (entered left : A → CellView → CellView �
   pub cells : t.cells ≡ reverse (records_of calls)
   pub flags : map flag_of (reverse t.cells) ≡ map (is_refined p.plan.new) (written_by p.plan)
   pub written : t.written ≡ []
-  pub input : Matched (IsOfOutput (with_calls (begun p start tale) calls)) (put_by (moves_of p.plan)) (reverse t.lanes.input)
+  pub input : Matched (IsOfOutput (with_calls (begun p start tale) calls))
+      (put_by (moves_of p.plan)) (reverse t.lanes.input)
   pub output : t.lanes.output ≡ []
   pub lanes : t.lanes.lanes ≡ no_lanes
   pub taken : t.lanes.taken ≡ 0

@@ -24,14 +24,16 @@ use Rattle.tree_automaton.specs.Moments.{IsDuring, IsStoreOf}
 use Rattle.tree_automaton.specs.Views.{KnowsField, ViewFits, ParentFits}
 
 -- a store is of a sweep, and the parent's view fits it
-pub record IsBefore (p : TreeSweep) (parent : Option CellView) (c : CellKey) (kind : Kind) (s : TreeLists) : Type 0 where
+pub record IsBefore (p : TreeSweep) (parent : Option CellView) (c : CellKey) (kind : Kind)
+    (s : TreeLists) : Type 0 where
   pub served : served_by kind ≡ p.serves
   pub sweep : IsTreeSweep p
   pub of : IsStoreOf p s
   pub above : ParentFits p c parent
 
 -- what `enter` asks: the next visit of the sweep is the enter of this cell
-pub record EnterAsks (m : Story) (made more : List Visit) (parent : Option CellView) (c : CellKey) (kind : Kind) (s : TreeLists) : Type 0 where
+pub record EnterAsks (m : Story) (made more : List Visit) (parent : Option CellView) (c : CellKey)
+    (kind : Kind) (s : TreeLists) : Type 0 where
   pub before : IsBefore m.sweep parent c kind s
   pub during : IsDuring m made (enter c ∷ more) s
 
@@ -73,12 +75,14 @@ pub record ViewTaken (m : Story) (c : CellKey) (v : CellView) : Type 0 where
   pub task : is_cell_in m.sweep.plan.old c ≡ true → v.task ≡ m.sweep.task c
 
 -- what `enter` gives: the store at the next moment
-pub record EnterGives (m : Story) (made more : List Visit) (c : CellKey) (t : TreeLists) (v : CellView) : Type 0 where
+pub record EnterGives (m : Story) (made more : List Visit) (c : CellKey) (t : TreeLists)
+    (v : CellView) : Type 0 where
   pub during : IsDuring m (made ++ enter c ∷ []) more t
   pub view : ViewTaken m c v
 
 -- what `leave` asks: the next visit of the sweep is the leave of this cell, and the view is the cell's
-pub record LeaveAsks (m : Story) (made more : List Visit) (parent : Option CellView) (c : CellKey) (view : CellView) (kind : Kind) (s : TreeLists) : Type 0 where
+pub record LeaveAsks (m : Story) (made more : List Visit) (parent : Option CellView) (c : CellKey)
+    (view : CellView) (kind : Kind) (s : TreeLists) : Type 0 where
   pub before : IsBefore m.sweep parent c kind s
   pub during : IsDuring m made (leave c ∷ more) s
   pub fits : ViewFits m.sweep c view

@@ -47,7 +47,8 @@ fn make_vertex(corner: &mut Corner)
 fn take_input(store: &mut TreeStore, corner: &mut Corner) -> bool
     ensures none { IsFalse result → store.old.lanes.input ≡ [] }
     ensures first { IsTrue result
-        → (v : Stored) × (corner.new ≡ Vertex v) × (store.old.lanes.input ≡ v ∷ store.new.lanes.input) }
+        → (v : Stored) × (corner.new ≡ Vertex v)
+        × (store.old.lanes.input ≡ v ∷ store.new.lanes.input) }
     ensures others { IsTrue result → store.new ≡ record store.old {
       lanes = record store.old.lanes {
         input = store.new.lanes.input;
@@ -70,7 +71,8 @@ fn pop(store: &mut TreeStore, lane: u32, corner: &mut Corner) -> bool
     requires { lane < 2 * axes store.old.lanes.dim }
     ensures none { IsFalse result → lane_at store.old.lanes lane ≡ [] }
     ensures last { IsTrue result
-        → (v : Stored) × (corner.new ≡ Vertex v) × (lane_at store.old.lanes lane ≡ lane_at store.new.lanes lane ++ v ∷ []) }
+        → (v : Stored) × (corner.new ≡ Vertex v)
+        × (lane_at store.old.lanes lane ≡ lane_at store.new.lanes lane ++ v ∷ []) }
     ensures others { IsTrue result → store.new ≡ record store.old {
       lanes = record store.old.lanes {
         lanes = slice_set store.old.lanes.lanes lane (lane_at store.new.lanes lane);
@@ -284,7 +286,8 @@ pub(crate) fn enter_into(
     ensures carried { CarriesFrom store.old.lanes.dim (seen parent.entry) view.new.carried }
     ensures key { view.new.key ≡ cell }
     ensures place { IsPlace store.old.lanes.dim view.new }
-    ensures others { store.new ≡ record store.old { cells = store.new.cells; lanes = store.new.lanes; live = false } }
+    ensures others { store.new
+        ≡ record store.old { cells = store.new.cells; lanes = store.new.lanes; live = false } }
     ensures tree { IsSameTree store.old store.new }
     ensures spare { served_by kind ≡ Plain
         → (store.old.lanes.spare +ℤ pos (vertices_in view.new.corners)) ≤ℤ store.new.lanes.spare }
@@ -315,7 +318,8 @@ impl Automaton {
             → EnterAsks m made more (seen parent.entry) cell kind store.old
             → EnterGives m made more cell store.new result }
         ensures carried { CarriesFrom store.old.lanes.dim (seen parent.entry) result.carried }
-        ensures others { store.new ≡ record store.old { cells = store.new.cells; lanes = store.new.lanes; live = false } }
+        ensures others { store.new
+            ≡ record store.old { cells = store.new.cells; lanes = store.new.lanes; live = false } }
         ensures tree { IsSameTree store.old store.new }
         ensures spare { served_by kind ≡ Plain
             → (store.old.lanes.spare +ℤ pos (vertices_in result.corners)) ≤ℤ store.new.lanes.spare }

@@ -20,7 +20,7 @@ impl Serves {
         match kind {
             Kind::Raise => Serves::Raising,
             Kind::Adapt => Serves::Adapting,
-            Kind::Show | Kind::Primary | Kind::Secondary => Serves::Plain,
+            Kind::Show | Kind::Primary | Kind::Secondary | Kind::Recut => Serves::Plain,
         }
     }
 

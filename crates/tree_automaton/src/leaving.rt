@@ -46,7 +46,8 @@ fn give_corner(
         → GiveAsks m made more course.now (seen parent.entry) cell n given.old store.old
         → GiveGives m made more cell n store.new) }
     ensures others { MovesVertices store.old store.new }
-    ensures spare { OnOk result (store.old.lanes.spare ≤ℤ (store.new.lanes.spare +ℤ pos (vertex_part given.old))) }
+    ensures spare { OnOk result
+        (store.old.lanes.spare ≤ℤ (store.new.lanes.spare +ℤ pos (vertex_part given.old))) }
     ensures memory { pos (vertex_part given.old) ≤ℤ store.old.lanes.spare → IsOk result }
 {
     match given {
@@ -80,7 +81,8 @@ fn give_corners(
         → GiveAllAsks m made more course.now (seen parent.entry) cell given.old store.old
         → GivenBelow m more cell (corners course.now.dim) 0 store.new) }
     ensures others { MovesVertices store.old store.new }
-    ensures spare { OnOk result (store.old.lanes.spare ≤ℤ (store.new.lanes.spare +ℤ pos (vertices_in given.old))) }
+    ensures spare { OnOk result
+        (store.old.lanes.spare ≤ℤ (store.new.lanes.spare +ℤ pos (vertices_in given.old))) }
     ensures memory { pos (vertices_in given.old) ≤ℤ store.old.lanes.spare → IsOk result }
 {
     for n in 0..corner_count(course.dim) {
@@ -112,9 +114,17 @@ fn write_cell(
     requires round { IsRound course.now cell round.now }
     requires asks { (p : TreeSweep) × Decides p course.now (seen parent) cell }
     ensures written { OnOk result (store.new.written ≡ store.old.written ++ record_by will task) }
-    ensures counted { OnOk result ((p : TreeSweep) → Decides p course.now (seen parent.entry) cell
-        → store.new.counted ≡ (if is_leaf_left p.plan cell will then capped (store.old.counted + 1) else store.old.counted)) }
-    ensures others { store.new ≡ record store.old { written = store.new.written; cell_room = store.new.cell_room; counted = store.new.counted } }
+    ensures counted { OnOk result
+        ((p : TreeSweep) → Decides p course.now (seen parent.entry) cell
+        → store.new.counted
+        ≡ (if is_leaf_left p.plan cell will then capped (store.old.counted + 1)
+        else store.old.counted)) }
+    ensures others { store.new
+        ≡ record store.old {
+          written = store.new.written;
+          cell_room = store.new.cell_room;
+          counted = store.new.counted;
+        } }
     ensures room { store.old.cell_room ≤ store.new.cell_room }
     ensures memory { 0 < spare_cells store.old → IsOk result }
 {
@@ -149,9 +159,16 @@ pub(crate) fn leave_from(
     ensures left { OnOk result ((m : Story) (made more : List Visit)
         → LeaveAsks m made more (seen parent.entry) view.old.key view.old kind store.old
         → LeaveGives m made more view.old.key view.old store.new) }
-    ensures others { store.new ≡ record store.old { written = store.new.written; lanes = store.new.lanes; cell_room = store.new.cell_room; counted = store.new.counted } }
+    ensures others { store.new
+        ≡ record store.old {
+          written = store.new.written;
+          lanes = store.new.lanes;
+          cell_room = store.new.cell_room;
+          counted = store.new.counted;
+        } }
     ensures tree { IsSameTree store.old store.new }
-    ensures spare { OnOk result (store.old.lanes.spare ≤ℤ (store.new.lanes.spare +ℤ pos (vertices_in view.old.corners))) }
+    ensures spare { OnOk result
+        (store.old.lanes.spare ≤ℤ (store.new.lanes.spare +ℤ pos (vertices_in view.old.corners))) }
     ensures cells { spare_cells store.old ≤ spare_cells store.new + 1 }
     ensures room { store.old.cell_room ≤ store.new.cell_room }
     ensures memory { pos (vertices_in view.old.corners) ≤ℤ store.old.lanes.spare
@@ -187,9 +204,16 @@ impl Automaton {
         ensures left { OnOk result ((m : Story) (made more : List Visit)
             → LeaveAsks m made more (seen parent.entry) view.key view kind store.old
             → LeaveGives m made more view.key view store.new) }
-        ensures others { store.new ≡ record store.old { written = store.new.written; lanes = store.new.lanes; cell_room = store.new.cell_room; counted = store.new.counted } }
+        ensures others { store.new
+            ≡ record store.old {
+              written = store.new.written;
+              lanes = store.new.lanes;
+              cell_room = store.new.cell_room;
+              counted = store.new.counted;
+            } }
         ensures tree { IsSameTree store.old store.new }
-        ensures spare { OnOk result (store.old.lanes.spare ≤ℤ (store.new.lanes.spare +ℤ pos (vertices_in view.corners))) }
+        ensures spare { OnOk result
+            (store.old.lanes.spare ≤ℤ (store.new.lanes.spare +ℤ pos (vertices_in view.corners))) }
         ensures cells { spare_cells store.old ≤ spare_cells store.new + 1 }
         ensures room { store.old.cell_room ≤ store.new.cell_room }
         ensures memory { pos (vertices_in view.corners) ≤ℤ store.old.lanes.spare

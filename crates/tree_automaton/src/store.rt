@@ -221,9 +221,15 @@ impl TreeStore {
         requires live { self.old.live ≡ true }
         requires place { k < length self.old.lanes.input }
         requires slot { n < 8 }
-        ensures slot { IsSomeAnd (slice_get self.old.lanes.input k) (λ v. self.new ≡ record self.old {
-          lanes = record self.old.lanes { input = slice_set self.old.lanes.input k (with_slot v n slot) };
-        }) }
+        ensures slot { IsSomeAnd (slice_get self.old.lanes.input k)
+            (λ v. self.new
+            ≡ record self.old {
+              lanes = record self.old.lanes {
+                input = slice_set
+                    self.old.lanes.input k
+                    (with_slot v n slot);
+              };
+            }) }
         ensures eight { IsSomeAnd (slice_get self.old.lanes.input k) (λ v. length v.slots ≡ 8) }
     {
         self.lanes.set_slot(k, n, slot);
@@ -253,7 +259,8 @@ impl TreeStore {
         ensures none { result ≡ None
             → (self.old.cells ≡ []) × (self.new ≡ record self.old { live = false }) }
         ensures first { IfSome result (λ r. self.old.cells ≡ r ∷ self.new.cells) }
-        ensures others { IfSome result (λ _. self.new ≡ record self.old { cells = self.new.cells; live = false }) }
+        ensures others { IfSome result
+            (λ _. self.new ≡ record self.old { cells = self.new.cells; live = false }) }
     {
         self.live = false;
         let cell = self.cells.pop()?;
@@ -269,7 +276,12 @@ impl TreeStore {
 
     // Adds a cell's record.
     pub(crate) fn write(&mut self, cell: CellRecord) -> Result<(), AllocError>
-        ensures ok { OnOk result (self.new ≡ record self.old { written = self.old.written ++ cell ∷ []; cell_room = self.new.cell_room }) }
+        ensures ok { OnOk result
+            (self.new
+            ≡ record self.old {
+              written = self.old.written ++ cell ∷ [];
+              cell_room = self.new.cell_room;
+            }) }
         ensures err { OnErr result (self.new ≡ record self.old { cell_room = self.new.cell_room }) }
         ensures room { self.old.cell_room ≤ self.new.cell_room }
         ensures memory { 0 < spare_cells self.old → IsOk result }
@@ -359,7 +371,11 @@ impl TreeStore {
 
     // Makes room for a sweep that moves no more than lies here: every vertex and every cell record may go from list to list.
     pub(crate) fn reserve(&mut self) -> Result<(), AllocError>
-        ensures lists { self.new ≡ record self.old { lanes = record self.old.lanes { spare = self.new.lanes.spare }; cell_room = self.new.cell_room } }
+        ensures lists { self.new
+            ≡ record self.old {
+              lanes = record self.old.lanes { spare = self.new.lanes.spare };
+              cell_room = self.new.cell_room;
+            } }
         ensures vertices { OnOk result (pos 0 ≤ℤ self.new.lanes.spare) }
         ensures cells { OnOk result (length self.old.cells ≤ self.new.cell_room) }
         ensures room { OnOk result (held self.old.lanes ≤ self.old.stored

@@ -20,13 +20,15 @@ pub trait Visitor {
     fn refined_after(&mut self, cell: &CellView) -> bool
         requires { IsViewIn (meaning self.old).dim cell.now }
         ensures same { self.new ≡ self.old }
-        ensures value { Foresees (meaning self.old).serves (meaning self.old).new_grid cell.now result };
+        ensures value { Foresees (meaning self.old).serves
+            (meaning self.old).new_grid cell.now result };
 
     /// Called as a cell is entered, before all cells below it.
     fn enter(&mut self, cell: &mut CellView) -> Result<(), AllocError>
         requires { IsViewIn (meaning self.old).dim cell.old }
         ensures keeps { Keeps cell.old cell.new }
-        ensures slots { MayEnter (meaning self.old).serves (meaning self.old).new_grid cell.old cell.new }
+        ensures slots { MayEnter (meaning self.old).serves
+            (meaning self.old).new_grid cell.old cell.new }
         ensures done { OnOk result (entered self.old cell.old cell.new self.new) }
         ensures memory { (meaning self.old).may_want ≡ false → IsOk result }
         ensures same { meaning self.new ≡ meaning self.old };
@@ -35,7 +37,8 @@ pub trait Visitor {
     fn leave(&mut self, cell: &mut CellView) -> Result<(), AllocError>
         requires { IsViewIn (meaning self.old).dim cell.old }
         ensures keeps { Keeps cell.old cell.new }
-        ensures slots { MayLeave (meaning self.old).serves (meaning self.old).new_grid cell.old cell.new }
+        ensures slots { MayLeave (meaning self.old).serves
+            (meaning self.old).new_grid cell.old cell.new }
         ensures done { OnOk result (left self.old cell.old cell.new self.new) }
         ensures memory { (meaning self.old).may_want ≡ false → IsOk result }
         ensures same { meaning self.new ≡ meaning self.old };

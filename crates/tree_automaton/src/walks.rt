@@ -96,9 +96,11 @@ fn walk<V: Visitor>(
         × WalkAsks m (V.meaning visitor.old) made more (seen parent) cell kind store.old }
     ensures place { OnOk result (IsPlace store.old.lanes.dim view.new) }
     ensures places { OnOk result (HavePlaces store.old.lanes.dim (cell.level + 1) below.new) }
-    ensures done { OnOk result ((m : Story) (made more : List Visit)
+    ensures done { OnOk result
+        ((m : Story) (made more : List Visit)
         → WalkAsks m (V.meaning visitor.old) made more (seen parent.entry) cell kind store.old
-        → VisitsGive V.entered V.left m made (cell_visits m.sweep.plan cell) more store.new visitor.old visitor.new) }
+        → VisitsGive V.entered V.left m made
+        (cell_visits m.sweep.plan cell) more store.new visitor.old visitor.new) }
     ensures same { V.meaning visitor.new ≡ V.meaning visitor.old }
     ensures tree { IsSameTree store.old store.new }
     ensures live { StaysNotLive store.old store.new }
@@ -133,17 +135,23 @@ fn walk_below<V: Visitor>(
     requires round { IsRoundIn store.old view.now.key round.now }
     requires places { HavePlaces store.old.lanes.dim (view.now.key.level + 1) views.old }
     requires asks { (m : Story) × (made : List Visit) × (more : List Visit)
-        × BelowAsks m (V.meaning visitor.old) made more view.now.key view.now (visits_below m.sweep.plan view.now.key) kind store.old }
-    ensures places { OnOk result (HavePlaces store.old.lanes.dim (view.now.key.level + 1) views.new) }
-    ensures done { OnOk result ((m : Story) (made more : List Visit)
-        → BelowAsks m (V.meaning visitor.old) made more view.now.key view.now (visits_below m.sweep.plan view.now.key) kind store.old
-        → VisitsGive V.entered V.left m made (visits_below m.sweep.plan view.now.key) more store.new visitor.old visitor.new) }
+        × BelowAsks m (V.meaning visitor.old) made more view.now.key view.now
+        (visits_below m.sweep.plan view.now.key) kind store.old }
+    ensures places { OnOk result
+        (HavePlaces store.old.lanes.dim (view.now.key.level + 1) views.new) }
+    ensures done { OnOk result
+        ((m : Story) (made more : List Visit)
+        → BelowAsks m (V.meaning visitor.old) made more view.now.key view.now
+        (visits_below m.sweep.plan view.now.key) kind store.old
+        → VisitsGive V.entered V.left m made
+        (visits_below m.sweep.plan view.now.key) more store.new visitor.old visitor.new) }
     ensures same { V.meaning visitor.new ≡ V.meaning visitor.old }
     ensures tree { IsSameTree store.old store.new }
     ensures live { StaysNotLive store.old store.new }
     ensures room { OnOk result (KeepsRoom kind store.old store.new) }
     ensures memory { (m : Story) (made more : List Visit)
-        → BelowAsks m (V.meaning visitor.old) made more view.now.key view.now (visits_below m.sweep.plan view.now.key) kind store.old
+        → BelowAsks m (V.meaning visitor.old) made more view.now.key view.now
+        (visits_below m.sweep.plan view.now.key) kind store.old
         → HasRoom m.sweep (V.meaning visitor.old) store.old → IsOk result }
 {
     if !is_opened(view) {
@@ -184,20 +192,25 @@ fn walk_from<V: Visitor>(
     requires child { parent_of cell ≡ parent.now.key }
     requires below { 1 ≤ cell.level }
     requires asks { (m : Story) × (made : List Visit) × (more : List Visit)
-        × BelowAsks m (V.meaning visitor.old) made more parent.now.key parent.now (visits_rest m.sweep.plan cell) kind store.old
+        × BelowAsks m (V.meaning visitor.old) made more parent.now.key parent.now
+        (visits_rest m.sweep.plan cell) kind store.old
         × (is_opened m.sweep.plan parent.now.key ≡ true) }
     ensures place { OnOk result (IsPlace store.old.lanes.dim view.new) }
     ensures places { OnOk result (HavePlaces store.old.lanes.dim (cell.level + 1) below.new) }
-    ensures done { OnOk result ((m : Story) (made more : List Visit)
-        → BelowAsks m (V.meaning visitor.old) made more parent.now.key parent.now (visits_rest m.sweep.plan cell) kind store.old
+    ensures done { OnOk result
+        ((m : Story) (made more : List Visit)
+        → BelowAsks m (V.meaning visitor.old) made more parent.now.key parent.now
+        (visits_rest m.sweep.plan cell) kind store.old
         → is_opened m.sweep.plan parent.now.key ≡ true
-        → VisitsGive V.entered V.left m made (visits_rest m.sweep.plan cell) more store.new visitor.old visitor.new) }
+        → VisitsGive V.entered V.left m made
+        (visits_rest m.sweep.plan cell) more store.new visitor.old visitor.new) }
     ensures same { V.meaning visitor.new ≡ V.meaning visitor.old }
     ensures tree { IsSameTree store.old store.new }
     ensures live { StaysNotLive store.old store.new }
     ensures room { OnOk result (KeepsRoom kind store.old store.new) }
     ensures memory { (m : Story) (made more : List Visit)
-        → BelowAsks m (V.meaning visitor.old) made more parent.now.key parent.now (visits_rest m.sweep.plan cell) kind store.old
+        → BelowAsks m (V.meaning visitor.old) made more parent.now.key parent.now
+        (visits_rest m.sweep.plan cell) kind store.old
         → is_opened m.sweep.plan parent.now.key ≡ true
         → HasRoom m.sweep (V.meaning visitor.old) store.old → IsOk result }
 {
@@ -231,9 +244,10 @@ pub fn sweep<V: Visitor>(
     kind: Kind,
 ) -> Result<SweepNote, AllocError>
     requires asks { (p : TreeSweep) × SweepAsks p (V.meaning visitor.old) kind store.old }
-    ensures done { IfOk result (λ note. (p : TreeSweep)
-        → SweepAsks p (V.meaning visitor.old) kind store.old
-        → SweepGives V.entered V.left p step kind store.old.lanes.input store.old.lanes.tale store.new visitor.old visitor.new note) }
+    ensures done { IfOk result
+        (λ note. (p : TreeSweep) → SweepAsks p (V.meaning visitor.old) kind store.old
+        → SweepGives V.entered V.left p step kind store.old.lanes.input store.old.lanes.tale
+        store.new visitor.old visitor.new note) }
     ensures rest { IfOk result (λ note. (p : TreeSweep)
         → SweepAsks p (V.meaning visitor.old) kind store.old → (q : SweepPlan) → IsSweepPlan q
         → ComesAfter p.plan q → HasLists q p.tree store.new) }

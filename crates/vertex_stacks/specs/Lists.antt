@@ -92,7 +92,8 @@ pages_live dim zero = 0
 pages_live dim (suc n) = pages_for (suc n) + lists_of dim
 
 -- lists as they are seen, with so many pages
-abbrev pub lists_seen : Dim → ℕ → List Stored → List Stored → List (List Stored) → ℕ → ℕ → ℕ → Tale → SweepLists
+abbrev pub lists_seen : Dim → ℕ → List Stored → List Stored → List (List Stored) → ℕ → ℕ → ℕ → Tale
+    → SweepLists
 lists_seen dim pages input output lanes taken put pushed tale = record {
   dim = dim;
   input = input;

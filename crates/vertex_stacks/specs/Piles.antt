@@ -11,7 +11,8 @@ use Rattle.peano_records.specs.Columns.{record_of}
 
 -- the records of three columns
 abbrev pub records_of : List Near → List FourSlots → List More → List Stored
-records_of (near ∷ nears) (far ∷ fars) (more ∷ mores) = record_of near far more ∷ records_of nears fars mores
+records_of (near ∷ nears) (far ∷ fars) (more ∷ mores) = record_of near far more
+    ∷ records_of nears fars mores
 records_of [] fars mores = []
 records_of (near ∷ nears) [] mores = []
 records_of (near ∷ nears) (far ∷ fars) [] = []
@@ -44,11 +45,14 @@ abbrev pub Reach : ℕ → List PileSeen → Type 0
 Reach pages piles = All (λ pile. pages ≤ pile.reach) piles
 
 -- pages in lists and in the pool are all pages, each of them has room for all, and lanes that the dimension has not are empty
-pub record AreInPages (dim : Dim) (pages : ℕ) (pool : PoolSeen) (input output : PileSeen) (lanes : List PileSeen) : Type 0 where
+pub record AreInPages (dim : Dim) (pages : ℕ) (pool : PoolSeen) (input output : PileSeen)
+    (lanes : List PileSeen) : Type 0 where
   pub six : length lanes ≡ 6
   pub unused : (n : ℕ) → 2 * axes dim ≤ n → slice_index_or (map items_of lanes) n [] ≡ []
   pub count : pages
-      ≡ pool.count + (pages_for (length input.items) + pages_for (length output.items) + pages_in (map items_of lanes))
+      ≡ pool.count
+      + (pages_for (length input.items) + pages_for (length output.items)
+      + pages_in (map items_of lanes))
   pub most : pages ≤ 2 ^ 50
   pub in_pool : pages ≤ pool.reach
   pub in_input : pages ≤ input.reach

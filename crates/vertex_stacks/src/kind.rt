@@ -15,10 +15,12 @@ pub enum Kind {
     Secondary,
     /// Splits and merges cells.
     Adapt,
+    /// Reads the values of leaves, before the trees are cut anew.
+    Recut,
 }
 
 impl Kind {
-    // The place of this kind in a tale: 0 to 4, in the order in which the kinds stand here.
+    // The place of this kind in a tale: 0 to 5, in the order in which the kinds stand here.
     pub(crate) fn place(self) -> usize
         ensures value { result ≡ place_of self }
         ensures below { result < 6 }
@@ -29,6 +31,7 @@ impl Kind {
             Kind::Primary => 2,
             Kind::Secondary => 3,
             Kind::Adapt => 4,
+            Kind::Recut => 5,
         }
     }
 }

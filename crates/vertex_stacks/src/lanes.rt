@@ -228,7 +228,8 @@ impl Lanes {
     /// How many pages there are. Takes no memory.
     pub fn pages(&self) -> u64
         ensures value { result ≡ pages_of self.now }
-        ensures spare { self.now.spare ≡ (pos (places_of self.now.dim (pages_of self.now)) -ℤ pos (held self.now)) }
+        ensures spare { self.now.spare
+            ≡ (pos (places_of self.now.dim (pages_of self.now)) -ℤ pos (held self.now)) }
         ensures used { pages_used self.now ≤ pages_of self.now }
         ensures six { length self.now.lanes ≡ 6 }
     {
@@ -343,7 +344,8 @@ impl Lanes {
     pub fn reserve_live(&mut self, vertices: u64) -> Result<(), AllocError>
         ensures lists { self.new ≡ record self.old { spare = self.new.spare } }
         ensures kept { self.old.spare ≤ℤ self.new.spare }
-        ensures pages { OnOk result (pages_of self.new ≡ max (pages_of self.old) (pages_live self.old.dim vertices)) }
+        ensures pages { OnOk result
+            (pages_of self.new ≡ max (pages_of self.old) (pages_live self.old.dim vertices)) }
         ensures room { OnOk result (vertices ≤ room_of self.new) }
         ensures spare { (pos (room_of self.new) -ℤ pos (held self.new)) ≤ℤ self.new.spare }
         ensures covered { vertices ≤ room_of self.old → IsOk result × (self.new ≡ self.old) }
@@ -422,7 +424,8 @@ impl Lanes {
     pub fn pop(&mut self, lane: u32) -> Option<Stored>
         requires { lane < 2 * axes self.old.dim }
         ensures none { result ≡ None → (lane_at self.old lane ≡ []) × (self.new ≡ self.old) }
-        ensures last { IfSome result (λ v. lane_at self.old lane ≡ lane_at self.new lane ++ v ∷ []) }
+        ensures last { IfSome result
+            (λ v. lane_at self.old lane ≡ lane_at self.new lane ++ v ∷ []) }
         ensures others { IfSome result (λ _. self.new ≡ record self.old {
           lanes = slice_set self.old.lanes lane (lane_at self.new lane);
           spare = self.new.spare;
@@ -456,7 +459,8 @@ impl Lanes {
         } }
         ensures spare { self.old.spare ≡ (self.new.spare +ℤ pos 1) }
         ensures pages { pages_of self.new ≡ pages_of self.old }
-        ensures used { pages_used self.new + pages_for (length self.old.output) ≡ pages_used self.old + pages_for (length self.old.output + 1) }
+        ensures used { pages_used self.new + pages_for (length self.old.output)
+            ≡ pages_used self.old + pages_for (length self.old.output + 1) }
         ensures six { length self.new.lanes ≡ 6 }
     {
         self.output.push(&mut self.pool, v);
@@ -475,7 +479,8 @@ impl Lanes {
         } }
         ensures spare { self.old.spare ≡ (self.new.spare +ℤ pos 1) }
         ensures pages { pages_of self.new ≡ pages_of self.old }
-        ensures used { pages_used self.new + pages_for (length (lane_at self.old lane)) ≡ pages_used self.old + pages_for (length (lane_at self.old lane) + 1) }
+        ensures used { pages_used self.new + pages_for (length (lane_at self.old lane))
+            ≡ pages_used self.old + pages_for (length (lane_at self.old lane) + 1) }
         ensures six { length self.new.lanes ≡ 6 }
     {
         self.lanes[lane as usize].push(&mut self.pool, v);
@@ -494,7 +499,8 @@ impl Lanes {
         ensures spare { OnOk result (self.old.spare ≤ℤ (self.new.spare +ℤ pos 1)) }
         ensures err { OnErr result (self.new ≡ self.old) }
         ensures room { pos 0 <ℤ self.old.spare → IsOk result }
-        ensures pages { OnOk result (pages_of self.new ≡ max (pages_of self.old) (pages_used self.new)) }
+        ensures pages { OnOk result
+            (pages_of self.new ≡ max (pages_of self.old) (pages_used self.new)) }
         ensures still { pos 0 <ℤ self.old.spare → pages_of self.new ≡ pages_of self.old }
         ensures live { held self.old < room_of self.old
             → IsOk result × (pages_of self.new ≡ pages_of self.old) }
@@ -519,7 +525,8 @@ impl Lanes {
         ensures spare { OnOk result (self.old.spare ≤ℤ (self.new.spare +ℤ pos 1)) }
         ensures err { OnErr result (self.new ≡ self.old) }
         ensures room { pos 0 <ℤ self.old.spare → IsOk result }
-        ensures pages { OnOk result (pages_of self.new ≡ max (pages_of self.old) (pages_used self.new)) }
+        ensures pages { OnOk result
+            (pages_of self.new ≡ max (pages_of self.old) (pages_used self.new)) }
         ensures still { pos 0 <ℤ self.old.spare → pages_of self.new ≡ pages_of self.old }
         ensures live { held self.old < room_of self.old
             → IsOk result × (pages_of self.new ≡ pages_of self.old) }
@@ -542,7 +549,8 @@ impl Lanes {
         ensures spare { OnOk result (self.old.spare ≤ℤ (self.new.spare +ℤ pos 1)) }
         ensures err { IfErr result (λ back. (back ≡ v) × (self.new ≡ self.old)) }
         ensures room { pos 0 <ℤ self.old.spare → IsOk result }
-        ensures pages { OnOk result (pages_of self.new ≡ max (pages_of self.old) (pages_used self.new)) }
+        ensures pages { OnOk result
+            (pages_of self.new ≡ max (pages_of self.old) (pages_used self.new)) }
         ensures still { pos 0 <ℤ self.old.spare → pages_of self.new ≡ pages_of self.old }
         ensures live { held self.old < room_of self.old
             → IsOk result × (pages_of self.new ≡ pages_of self.old) }
@@ -567,7 +575,8 @@ impl Lanes {
         ensures spare { OnOk result (self.old.spare ≤ℤ (self.new.spare +ℤ pos 1)) }
         ensures err { IfErr result (λ back. (back ≡ v) × (self.new ≡ self.old)) }
         ensures room { pos 0 <ℤ self.old.spare → IsOk result }
-        ensures pages { OnOk result (pages_of self.new ≡ max (pages_of self.old) (pages_used self.new)) }
+        ensures pages { OnOk result
+            (pages_of self.new ≡ max (pages_of self.old) (pages_used self.new)) }
         ensures still { pos 0 <ℤ self.old.spare → pages_of self.new ≡ pages_of self.old }
         ensures live { held self.old < room_of self.old
             → IsOk result × (pages_of self.new ≡ pages_of self.old) }

@@ -30,7 +30,8 @@ impl Model for Page {
 
     ghost view = { λ p. records_of p.near.items p.far.items p.more.items };
 
-    ghost invariant = { λ p. (length p.near.items ≡ 64) × (length p.far.items ≡ 64) × (length p.more.items ≡ 64) };
+    ghost invariant = { λ p. (length p.near.items ≡ 64) × (length p.far.items ≡ 64)
+        × (length p.more.items ≡ 64) };
 }
 
 impl Page {
@@ -70,7 +71,8 @@ impl Page {
         requires place { place < 64 }
         requires slot { n < 8 }
         ensures value { (d : Stored)
-            → self.new ≡ slice_set self.old place (with_slot (slice_index_or self.old place d) n slot) }
+            → self.new
+            ≡ slice_set self.old place (with_slot (slice_index_or self.old place d) n slot) }
         ensures eight { (d : Stored) → length (slice_index_or self.old place d).slots ≡ 8 }
     {
         self.near[place].set(&mut self.far[place], &mut self.more[place], n, slot);

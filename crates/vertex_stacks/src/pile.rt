@@ -25,7 +25,10 @@ impl Model for Pile {
 
     ghost Value = { PileSeen };
 
-    ghost view = { λ p. record { items = take p.count (flat p.pages.items); reach = vec_capacity p.pages } };
+    ghost view = { λ p. record {
+      items = take p.count (flat p.pages.items);
+      reach = vec_capacity p.pages;
+    } };
 
     ghost invariant = { λ p. (vec_len p.pages ≡ pages_for p.count) × AreWhole p.pages.items };
 }
@@ -115,7 +118,8 @@ impl Pile {
             → (0 < pool.old.count) × (pages_for (length self.old.items) < self.old.reach) }
         ensures items { self.new.items ≡ self.old.items ++ v.now ∷ [] }
         ensures reach { (self.new.reach ≡ self.old.reach) × (pool.new.reach ≡ pool.old.reach) }
-        ensures pages { pool.new.count + pages_for (length self.new.items) ≡ pool.old.count + pages_for (length self.old.items) }
+        ensures pages { pool.new.count + pages_for (length self.new.items)
+            ≡ pool.old.count + pages_for (length self.old.items) }
     {
         let count = self.count;
         open_place(&mut self.pages, pool, count);
@@ -127,10 +131,12 @@ impl Pile {
     pub(crate) fn pop(&mut self, pool: &mut Pool, v: &mut Stored) -> bool
         requires { 0 < length self.old.items → pool.old.count < pool.old.reach }
         ensures none { result ≡ false
-            → (self.old.items ≡ []) × (self.new ≡ self.old) × (v.new ≡ v.old) × (pool.new ≡ pool.old) }
+            → (self.old.items ≡ []) × (self.new ≡ self.old) × (v.new ≡ v.old)
+            × (pool.new ≡ pool.old) }
         ensures last { result ≡ true → self.old.items ≡ self.new.items ++ v.new ∷ [] }
         ensures reach { (self.new.reach ≡ self.old.reach) × (pool.new.reach ≡ pool.old.reach) }
-        ensures pages { pool.new.count + pages_for (length self.new.items) ≡ pool.old.count + pages_for (length self.old.items) }
+        ensures pages { pool.new.count + pages_for (length self.new.items)
+            ≡ pool.old.count + pages_for (length self.old.items) }
     {
         if self.count == 0 {
             return false;
@@ -147,7 +153,9 @@ impl Pile {
         requires place { place < length self.old.items }
         requires slot { n < 8 }
         ensures items { (d : Stored)
-            → self.new.items ≡ slice_set self.old.items place (with_slot (slice_index_or self.old.items place d) n slot) }
+            → self.new.items
+            ≡ slice_set self.old.items place
+            (with_slot (slice_index_or self.old.items place d) n slot) }
         ensures eight { (d : Stored) → length (slice_index_or self.old.items place d).slots ≡ 8 }
         ensures reach { self.new.reach ≡ self.old.reach }
     {

@@ -51,16 +51,20 @@ adapting_in s = has_criterion (watch_in s)
 abbrev pub deepest_in : AnySolver → ℕ
 deepest_in s = depth_of (watch_in s)
 
-pub parts_stay_in : (s : AnySolver) (own : State) (sides : Sides) (level : ℕ) (new : State) → HaveParts (parts_in s) own sides → updated_by s own sides level ≡ Some new → count_of new ≡ parts_in s
+pub parts_stay_in : (s : AnySolver) (own : State) (sides : Sides) (level : ℕ) (new : State)
+    → HaveParts (parts_in s) own sides → updated_by s own sides level ≡ Some new
+    → count_of new ≡ parts_in s
 parts_stay_in (Diffuse k) own sides level new _ e = new_has 1 _ new (single_has_one _) e
 parts_stay_in (Advect k) own sides level new _ e = new_has 1 _ new (single_has_one _) e
 parts_stay_in (Wave k) own sides level new _ e = new_has 2 _ new (pair_has_two _ _) e
 
-pub kept_in : (s : AnySolver) (own : State) (sides : Sides) (level : ℕ) → adapting_in s ≡ false → marked_by s own sides level ≡ Keep
+pub kept_in : (s : AnySolver) (own : State) (sides : Sides) (level : ℕ) → adapting_in s ≡ false
+    → marked_by s own sides level ≡ Keep
 kept_in s own sides level h = kept_without (dim_in s) (watch_in s) own sides level h
 
 pub no_depth_in : (s : AnySolver) → adapting_in s ≡ false → deepest_in s ≡ 0
 no_depth_in s h = depth_without (watch_in s) h
 
-pub refined_in : (s : AnySolver) (own : State) (sides : Sides) (level : ℕ) → marked_by s own sides level ≡ Refine → level < deepest_in s
+pub refined_in : (s : AnySolver) (own : State) (sides : Sides) (level : ℕ)
+    → marked_by s own sides level ≡ Refine → level < deepest_in s
 refined_in s own sides level e = refined_above (dim_in s) (watch_in s) own sides level e

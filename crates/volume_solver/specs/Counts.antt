@@ -19,5 +19,6 @@ pair_has_two (Some u) None = tt
 pair_has_two None w = tt
 
 -- so the new state has as many
-pub new_has : (n : ℕ) (answer : Option State) (new : State) → AnswerHas n answer → answer ≡ Some new → count_of new ≡ n
+pub new_has : (n : ℕ) (answer : Option State) (new : State) → AnswerHas n answer → answer ≡ Some new
+    → count_of new ≡ n
 new_has n answer new h e = subst (AnswerHas n) e h

@@ -81,15 +81,14 @@ upwind_rise speed rule own low high =
 
 -- what the wind carries off on an axis
 abbrev pub carried_on : ℕ → Upwind → State → Sides → ℕ → ℤ
-carried_on i k own sides level =
-    let speed = speed_on k.wind i in
-    (speed *ℤ pos (3 ^ level)) *ℤ upwind_rise speed k.edge own (side_on sides.low i) (side_on sides.high i)
+carried_on i k own sides level = let speed = speed_on k.wind i in (speed *ℤ pos (3 ^ level))
+    *ℤ upwind_rise speed k.edge own (side_on sides.low i) (side_on sides.high i)
 
 -- and on all axes
 abbrev pub carried : Dim → Upwind → State → Sides → ℕ → ℤ
 carried Two k own sides level = carried_on 0 k own sides level +ℤ carried_on 1 k own sides level
-carried Three k own sides level =
-    (carried_on 0 k own sides level +ℤ carried_on 1 k own sides level) +ℤ carried_on 2 k own sides level
+carried Three k own sides level = (carried_on 0 k own sides level +ℤ carried_on 1 k own sides level)
+    +ℤ carried_on 2 k own sides level
 
 -- advection: the value loses the `b`th part of that, rounded down
 abbrev pub advected : Upwind → State → Sides → ℕ → Option State

@@ -51,7 +51,8 @@ pub(crate) fn sum_of_three(first: i128, second: i128, third: i128) -> i128
     requires second { unsigned_abs second < 2 ^ 122 }
     requires third { unsigned_abs third < 2 ^ 122 }
     ensures value { result ≡ (first +ℤ second) +ℤ third }
-    ensures bound { unsigned_abs result ≤ unsigned_abs first + unsigned_abs second + unsigned_abs third }
+    ensures bound { unsigned_abs result
+        ≤ unsigned_abs first + unsigned_abs second + unsigned_abs third }
 {
     first + second + third
 }

@@ -71,7 +71,8 @@ impl Upwind {
         requires wind { IsWind self.now.wind }
         requires divisor { IsDivisor self.now.b }
         requires level { level ≤ 12 }
-        ensures value { result ≡ int_div_euclid (carried self.now.dim self.now own sides.now level) self.now.b }
+        ensures value { result
+            ≡ int_div_euclid (carried self.now.dim self.now own sides.now level) self.now.b }
         ensures bound { unsigned_abs result < 2 ^ 124 }
     {
         quotient(self.carried(own, sides, level), self.b)

@@ -4,6 +4,7 @@ ghost use Rattle.peano_keys.specs.declared.dim.Dim.TheVariants.{Two};
 ghost use Rattle.peano_keys.specs.Grid.{IsGrid};
 ghost use Rattle.curve_cuts.specs.Keys.{cuts_of};
 ghost use Rattle.spacetree.specs.Build.{IsZone};
+ghost use Rattle.spacetree.specs.Fields.{IsFieldOn};
 ghost use Rattle.boundary_streams.specs.Trees.{IsKeyOf, IsTreeOf};
 
 use adapt_sweep::raise_tree;
@@ -132,7 +133,8 @@ fn raise(
     keys: &Keys,
     tree: u32,
 ) -> Result<TreeStore, AllocError>
-    requires { IsGrid 2 grid.now }
+    requires grid { IsGrid 2 grid.now }
+    requires field { IsFieldOn 1 grid.now field.now }
 {
     assert!(rt; keys.depth() == 2);
     assert!(rt; keys.dim() == grid.dim());

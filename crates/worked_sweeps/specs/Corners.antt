@@ -38,17 +38,21 @@ Moves p c taken given = (moves_at p (enter c) ≡ taken) × (moves_at p (leave c
 
 -- the middle leaf of the nine: no corner hangs
 abbrev pub MiddleLeaf : Type 0
-MiddleLeaf = (r : Cells) → IsRefinedCentre r →
-    Moves (forward r) (cell 2 4 4)
+MiddleLeaf = (r : Cells) → IsRefinedCentre r
+    → Moves (forward r) (cell 2 4 4)
     (pop 1 (passing (vertex 2 5 5) (cell 2 4 4)) ∷ take (vertex 2 4 5)
-    ∷ pop 2 (passing (vertex 2 5 4) (cell 2 4 4)) ∷ pop 2 (passing (vertex 2 4 4) (cell 2 4 4)) ∷ [])
+    ∷ pop 2 (passing (vertex 2 5 4) (cell 2 4 4))
+    ∷ pop 2 (passing (vertex 2 4 4) (cell 2 4 4)) ∷ [])
     (push 0 (passing (vertex 2 4 4) (cell 2 3 4)) ∷ put (vertex 2 5 4)
-    ∷ push 3 (passing (vertex 2 4 5) (cell 2 4 5)) ∷ push 3 (passing (vertex 2 5 5) (cell 2 4 5)) ∷ [])
+    ∷ push 3 (passing (vertex 2 4 5) (cell 2 4 5))
+    ∷ push 3 (passing (vertex 2 5 5) (cell 2 4 5)) ∷ [])
     × Moves (backward r) (cell 2 4 4)
-    (pop 3 (passing (vertex 2 5 5) (cell 2 4 4)) ∷ pop 3 (passing (vertex 2 4 5) (cell 2 4 4))
-    ∷ take (vertex 2 5 4) ∷ pop 0 (passing (vertex 2 4 4) (cell 2 4 4)) ∷ [])
-    (push 2 (passing (vertex 2 4 4) (cell 2 4 3)) ∷ push 2 (passing (vertex 2 5 4) (cell 2 4 3))
-    ∷ put (vertex 2 4 5) ∷ push 1 (passing (vertex 2 5 5) (cell 2 5 4)) ∷ [])
+    (pop 3 (passing (vertex 2 5 5) (cell 2 4 4))
+    ∷ pop 3 (passing (vertex 2 4 5) (cell 2 4 4)) ∷ take (vertex 2 5 4)
+    ∷ pop 0 (passing (vertex 2 4 4) (cell 2 4 4)) ∷ [])
+    (push 2 (passing (vertex 2 4 4) (cell 2 4 3))
+    ∷ push 2 (passing (vertex 2 5 4) (cell 2 4 3)) ∷ put (vertex 2 4 5)
+    ∷ push 1 (passing (vertex 2 5 5) (cell 2 5 4)) ∷ [])
 
 -- the leaf that comes first along the curve: one corner is stored, and three hang
 abbrev pub FirstLeaf : Type 0
@@ -62,12 +66,14 @@ FirstLeaf = (r : Cells) → IsRefinedCentre r →
 
 -- the one after it: two corners hang
 abbrev pub SecondLeaf : Type 0
-SecondLeaf = (r : Cells) → IsRefinedCentre r →
-    Moves (forward r) (cell 2 5 4)
+SecondLeaf = (r : Cells) → IsRefinedCentre r
+    → Moves (forward r) (cell 2 5 4)
     (pop 3 (passing (vertex 2 5 5) (cell 2 5 4)) ∷ take (vertex 2 5 4) ∷ [])
-    (push 2 (passing (vertex 2 5 4) (cell 2 5 3)) ∷ push 1 (passing (vertex 2 5 5) (cell 2 4 4)) ∷ [])
+    (push 2 (passing (vertex 2 5 4) (cell 2 5 3)) ∷ push 1 (passing (vertex 2 5 5) (cell 2 4 4))
+    ∷ [])
     × Moves (backward r) (cell 2 5 4)
-    (pop 1 (passing (vertex 2 5 5) (cell 2 5 4)) ∷ pop 2 (passing (vertex 2 5 4) (cell 2 5 4)) ∷ [])
+    (pop 1 (passing (vertex 2 5 5) (cell 2 5 4))
+    ∷ pop 2 (passing (vertex 2 5 4) (cell 2 5 4)) ∷ [])
     (put (vertex 2 5 4) ∷ push 3 (passing (vertex 2 5 5) (cell 2 5 5)) ∷ [])
 
 -- the leaf that comes last
@@ -82,17 +88,19 @@ LastLeaf = (r : Cells) → IsRefinedCentre r →
 
 -- the refined cell itself, whose corners are stored
 abbrev pub RefinedCell : Type 0
-RefinedCell = (r : Cells) → IsRefinedCentre r →
-    Moves (forward r) (cell 1 1 1)
+RefinedCell = (r : Cells) → IsRefinedCentre r
+    → Moves (forward r) (cell 1 1 1)
     (pop 2 (passing (vertex 1 2 2) (cell 1 1 1)) ∷ pop 2 (passing (vertex 1 1 2) (cell 1 1 1))
     ∷ take (vertex 1 2 1) ∷ pop 1 (passing (vertex 1 1 1) (cell 1 1 1)) ∷ [])
     (push 3 (passing (vertex 1 1 1) (cell 1 1 0)) ∷ push 3 (passing (vertex 1 2 1) (cell 1 1 0))
     ∷ put (vertex 1 1 2) ∷ push 0 (passing (vertex 1 2 2) (cell 1 2 1)) ∷ [])
     × Moves (backward r) (cell 1 1 1)
     (pop 0 (passing (vertex 1 2 2) (cell 1 1 1)) ∷ take (vertex 1 1 2)
-    ∷ pop 3 (passing (vertex 1 2 1) (cell 1 1 1)) ∷ pop 3 (passing (vertex 1 1 1) (cell 1 1 1)) ∷ [])
+    ∷ pop 3 (passing (vertex 1 2 1) (cell 1 1 1))
+    ∷ pop 3 (passing (vertex 1 1 1) (cell 1 1 1)) ∷ [])
     (push 1 (passing (vertex 1 1 1) (cell 1 0 1)) ∷ put (vertex 1 2 1)
-    ∷ push 2 (passing (vertex 1 1 2) (cell 1 1 2)) ∷ push 2 (passing (vertex 1 2 2) (cell 1 1 2)) ∷ [])
+    ∷ push 2 (passing (vertex 1 1 2) (cell 1 1 2))
+    ∷ push 2 (passing (vertex 1 2 2) (cell 1 1 2)) ∷ [])
 
 -- the middle leaf in a tree whose range begins with it: what the cells before it gave comes from the input
 abbrev pub CutLeaf : Type 0

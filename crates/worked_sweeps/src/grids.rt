@@ -148,7 +148,7 @@ fn criterion(wish: Wish) -> Criterion
     }
 }
 
-// The grid that comes after a grid, and its field: values stay, and so leaves have those of the leaves they come from.
+// The grid that comes after a grid, and its field: values stay, and so a leaf has that of the cell it comes from.
 pub(crate) fn next_of(
     alloc: Global,
     grid: &Grid,

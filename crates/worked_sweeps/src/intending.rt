@@ -127,7 +127,8 @@ fn is_told(grid: &Grid, next: &Grid, vertex: VertexKey, n: u32, slot: Slot) -> b
 fn is_before(store: &TreeStore, grid: &Grid, next: &Grid, k: u64) -> bool
     requires live { store.now.live ≡ true }
     requires place { k < length store.now.lanes.input }
-    ensures { IsTrue result → (d : Stored) → IsBeforeAdapting grid.now next.now (vertex_at store.now k d) }
+    ensures { IsTrue result → (d : Stored)
+        → IsBeforeAdapting grid.now next.now (vertex_at store.now k d) }
 {
     let vertex = store.key_at(k);
     for n in 0..8 {
@@ -153,7 +154,8 @@ fn are_before(store: &TreeStore, grid: &Grid, next: &Grid) -> bool
 
 // Writes one slot.
 fn write_slot(rt: &impl Abort, store: &mut TreeStore, grid: &Grid, next: &Grid, k: u64, n: u32)
-    ensures { (p : SweepPlan) (number : ℕ) → HasLists p number store.old → HasLists p number store.new }
+    ensures { (p : SweepPlan) (number : ℕ) → HasLists p number store.old
+        → HasLists p number store.new }
 {
     assert!(rt; store.is_live());
     assert!(rt; k < store.input_count());
@@ -164,7 +166,8 @@ fn write_slot(rt: &impl Abort, store: &mut TreeStore, grid: &Grid, next: &Grid, 
 
 // Writes the slots of a vertex.
 fn write_vertex(rt: &impl Abort, store: &mut TreeStore, grid: &Grid, next: &Grid, k: u64)
-    ensures { (p : SweepPlan) (number : ℕ) → HasLists p number store.old → HasLists p number store.new }
+    ensures { (p : SweepPlan) (number : ℕ) → HasLists p number store.old
+        → HasLists p number store.new }
 {
     for n in 0..8 {
         write_slot(rt, store, grid, next, k, n);
@@ -173,7 +176,8 @@ fn write_vertex(rt: &impl Abort, store: &mut TreeStore, grid: &Grid, next: &Grid
 
 // Writes the slots of all vertices.
 fn write_all(rt: &impl Abort, store: &mut TreeStore, grid: &Grid, next: &Grid)
-    ensures { (p : SweepPlan) (number : ℕ) → HasLists p number store.old → HasLists p number store.new }
+    ensures { (p : SweepPlan) (number : ℕ) → HasLists p number store.old
+        → HasLists p number store.new }
 {
     for k in 0..store.input_count() {
         write_vertex(rt, store, grid, next, k);

@@ -43,7 +43,8 @@ fn show(
     requires depth { keys.now.depth ≡ 2 }
     requires alone { (cuts_of keys.now).trees ≡ 1 }
     requires field { IsFieldOn 1 _grid.now _field.now }
-    requires stands { StandsFor 2 (range_of (cuts_of keys.now) 0) 0 store.old.dir _grid.now _field.now store.old }
+    requires stands { StandsFor 2
+        (range_of (cuts_of keys.now) 0) 0 store.old.dir _grid.now _field.now store.old }
 {
     show_tree(alloc, store, keys, 1)
 }
@@ -94,7 +95,8 @@ pub(crate) fn show_rows(
     requires depth { keys.now.depth ≡ 2 }
     requires alone { (cuts_of keys.now).trees ≡ 1 }
     requires field { IsFieldOn 1 grid.now field.now }
-    requires stands { StandsFor 2 (range_of (cuts_of keys.now) 0) 0 store.old.dir grid.now field.now store.old }
+    requires stands { StandsFor 2
+        (range_of (cuts_of keys.now) 0) 0 store.old.dir grid.now field.now store.old }
 {
     let before = store.tale();
     let (note, shown) = match show(alloc, store, grid, field, keys) {

@@ -63,7 +63,13 @@ impl Visitor for Watcher {
     ghost use Rattle.tree_automaton.specs.declared.kinds.Serves.TheVariants.{Plain};
     ghost use Rattle.adapt_sweep.specs.Lone.{lone};
 
-    ghost meaning = { λ a. record { serves = Plain; dim = a.dim; new_grid = lone; may_want = false; loan = 0 } };
+    ghost meaning = { λ a. record {
+      serves = Plain;
+      dim = a.dim;
+      new_grid = lone;
+      may_want = false;
+      loan = 0;
+    } };
 
     ghost entered = { λ a v w b. (b.dim ≡ a.dim) × (w ≡ v) };
 
@@ -97,7 +103,8 @@ fn watch(
 ) -> Result<SweepNote, AllocError>
     requires grid { IsGrid 2 grid.now }
     requires dim { watcher.old.dim ≡ grid.now.dim }
-    requires stands { StandsFor 2 (range_of (cuts_of _keys.now) 0) 0 store.old.dir grid.now _field.now store.old }
+    requires stands { StandsFor 2
+        (range_of (cuts_of _keys.now) 0) 0 store.old.dir grid.now _field.now store.old }
 {
     sweep(store, watcher, 1, Kind::Show)
 }

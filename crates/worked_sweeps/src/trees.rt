@@ -1,6 +1,7 @@
 //! Trees over small grids: their keys, their raised stores, and what their slots say.
 ghost use Rattle.std.specs.Prelude.{◌≡◌, ◌<◌, IfOk};
 ghost use Rattle.peano_keys.specs.Grid.{IsGrid};
+ghost use Rattle.spacetree.specs.Fields.{IsFieldOn};
 ghost use Rattle.curve_cuts.specs.Cuts.{IsCutGrid, range_of};
 ghost use Rattle.curve_cuts.specs.Keys.{cuts_of};
 ghost use Rattle.tree_automaton.specs.AtRest.{StandsFor};
@@ -70,9 +71,13 @@ pub(crate) fn raise(
     keys: &Keys,
     tree: u32,
 ) -> Result<(TreeStore, SweepNote), AllocError>
-    requires { IsGrid 2 grid.now }
+    requires grid { IsGrid 2 grid.now }
+    requires field { IsFieldOn 1 grid.now field.now }
     ensures over { IfOk result (λ raised. IsTreeOver (cuts_of keys.now) grid.now raised.0) }
-    ensures alone { IfOk result (λ raised. (cuts_of keys.now).trees ≡ 1 → StandsFor 2 (range_of (cuts_of keys.now) tree) tree raised.0.dir grid.now field.now raised.0) }
+    ensures alone { IfOk result
+        (λ raised. (cuts_of keys.now).trees ≡ 1
+        → StandsFor 2
+        (range_of (cuts_of keys.now) tree) tree raised.0.dir grid.now field.now raised.0) }
 {
     expect_cut(rt, grid, keys);
     expect_tree(rt, keys, tree);

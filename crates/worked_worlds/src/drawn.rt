@@ -6,7 +6,7 @@ use spacetree::EvalFault;
 use std::alloc::{AllocError, Global};
 
 // How many files are drawn.
-const FILES: u32 = 40;
+const FILES: u32 = 12;
 
 const TREES: [u32; 4] = [1, 2, 5, 64];
 
@@ -188,15 +188,15 @@ fn worlds_of_drawn_files_are_where_the_evaluation_is(rt: HostRuntime) -> Result<
     let mut refused: u32 = 0;
     for _ in 0..FILES {
         let file = drawn_file(alloc, &mut seed)?;
-        compare_last(&rt, alloc, file.as_str(), &TREES, &[0])?;
-        match compare(&rt, alloc, file.as_str(), &[1, 2, 5], &[2]) {
+        compare_last(&rt, alloc, file.as_str(), &[2, 5], &[2])?;
+        match compare(&rt, alloc, file.as_str(), &TREES, &[0]) {
             Ok((first, last)) if first == last => {}
             Ok(_) => changed = changed.saturating_add(1),
             Err(EvalFault::NoMemory) => return Err(AllocError),
             Err(_) => refused = refused.saturating_add(1),
         }
     }
-    assert!(rt; changed >= 10, "{changed} changed");
-    assert!(rt; refused >= 3, "{refused} refused");
+    assert!(rt; changed >= 3, "{changed} changed");
+    assert!(rt; refused >= 1, "{refused} refused");
     Ok(())
 }

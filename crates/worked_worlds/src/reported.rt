@@ -117,69 +117,73 @@ fn report_of<R: Abort + Threads + Sync>(
     Ok(report)
 }
 
+// A name, a file, so many trees, what is shown, and the report.
+type Reported = (&'static str, &'static str, u32, Shows, &'static str);
+
+const REPORTS: [Reported; 8] = [
+    (
+        "space",
+        SPACE,
+        1,
+        Shows::Traffic,
+        "traffic 1 trees 1\ntree 0 cells 28 stored 72 pushes 152 hanging 0 enclave 27 skeleton 0 sent 0\n",
+    ),
+    (
+        "nine leaves",
+        NINE_LEAVES,
+        1,
+        Shows::Traffic,
+        "traffic 1 trees 1\ntree 0 cells 10 stored 20 pushes 20 hanging 0 enclave 9 skeleton 0 sent 0\n",
+    ),
+    (
+        "nine leaves of two trees",
+        NINE_LEAVES,
+        2,
+        Shows::Traffic,
+        "traffic 1 trees 2\ntree 0 cells 5 stored 14 pushes 6 hanging 0 enclave 0 skeleton 4 sent 9\ntree 1 cells 6 stored 15 pushes 9 hanging 0 enclave 1 skeleton 4 sent 9\n",
+    ),
+    (
+        "refined centre",
+        REFINED_CENTRE,
+        1,
+        Shows::Traffic,
+        "traffic 0 trees 1\ntree 0 cells 19 stored 24 pushes 32 hanging 20 enclave 1 skeleton 16 sent 0\n",
+    ),
+    (
+        "two refined",
+        TWO_REFINED,
+        2,
+        Shows::Traffic,
+        "traffic 2 trees 2\ntree 0 cells 14 stored 23 pushes 22 hanging 11 enclave 4 skeleton 8 sent 9\ntree 1 cells 15 stored 19 pushes 21 hanging 20 enclave 1 skeleton 12 sent 9\n",
+    ),
+    (
+        "inflow",
+        INFLOW,
+        2,
+        Shows::Traffic,
+        "traffic 0 trees 2\ntree 0 cells 10 stored 18 pushes 12 hanging 10 enclave 0 skeleton 8 sent 13\ntree 1 cells 11 stored 19 pushes 15 hanging 10 enclave 0 skeleton 9 sent 13\ntraffic 1 trees 2\ntree 0 cells 6 stored 15 pushes 9 hanging 0 enclave 0 skeleton 4 sent 10\ntree 1 cells 6 stored 15 pushes 9 hanging 0 enclave 0 skeleton 5 sent 10\ntraffic 2 trees 2\ntree 0 cells 46 stored 68 pushes 104 hanging 12 enclave 24 skeleton 16 sent 24\ntree 1 cells 20 stored 36 pushes 38 hanging 6 enclave 2 skeleton 15 sent 24\n",
+    ),
+    (
+        "single cell",
+        SINGLE_CELL,
+        3,
+        Shows::All,
+        "step 0 leaves 1\n0 0 0 7\ntraffic 0 trees 3\ntree 0 cells 0 stored 0 pushes 0 hanging 0 enclave 0 skeleton 0 sent 0\ntree 1 cells 0 stored 0 pushes 0 hanging 0 enclave 0 skeleton 0 sent 0\ntree 2 cells 1 stored 4 pushes 0 hanging 0 enclave 1 skeleton 0 sent 0\n",
+    ),
+    (
+        "inflow, all",
+        INFLOW,
+        2,
+        Shows::All,
+        "step 0 leaves 17\n1 0 0 0\n1 0 1 0\n1 0 2 0\n1 1 0 0\n1 1 2 0\n1 2 0 0\n1 2 1 0\n1 2 2 0\n2 3 3 0\n2 3 4 0\n2 3 5 0\n2 4 3 0\n2 4 4 0\n2 4 5 0\n2 5 3 0\n2 5 4 0\n2 5 5 0\ntraffic 0 trees 2\ntree 0 cells 10 stored 18 pushes 12 hanging 10 enclave 0 skeleton 8 sent 13\ntree 1 cells 11 stored 19 pushes 15 hanging 10 enclave 0 skeleton 9 sent 13\nstep 1 leaves 9\n1 0 0 100\n1 0 1 100\n1 0 2 100\n1 1 0 0\n1 1 1 0\n1 1 2 0\n1 2 0 0\n1 2 1 0\n1 2 2 0\ntraffic 1 trees 2\ntree 0 cells 6 stored 15 pushes 9 hanging 0 enclave 0 skeleton 4 sent 10\ntree 1 cells 6 stored 15 pushes 9 hanging 0 enclave 0 skeleton 5 sent 10\nstep 2 leaves 57\n1 2 0 0\n1 2 1 0\n1 2 2 0\n2 0 0 100\n2 0 1 100\n2 0 2 100\n2 0 3 100\n2 0 4 100\n2 0 5 100\n2 0 6 100\n2 0 7 100\n2 0 8 100\n2 1 0 100\n2 1 1 100\n2 1 2 100\n2 1 3 100\n2 1 4 100\n2 1 5 100\n2 1 6 100\n2 1 7 100\n2 1 8 100\n2 2 0 100\n2 2 1 100\n2 2 2 100\n2 2 3 100\n2 2 4 100\n2 2 5 100\n2 2 6 100\n2 2 7 100\n2 2 8 100\n2 3 0 100\n2 3 1 100\n2 3 2 100\n2 3 3 100\n2 3 4 100\n2 3 5 100\n2 3 6 100\n2 3 7 100\n2 3 8 100\n2 4 0 100\n2 4 1 100\n2 4 2 100\n2 4 3 100\n2 4 4 100\n2 4 5 100\n2 4 6 100\n2 4 7 100\n2 4 8 100\n2 5 0 100\n2 5 1 100\n2 5 2 100\n2 5 3 100\n2 5 4 100\n2 5 5 100\n2 5 6 100\n2 5 7 100\n2 5 8 100\ntraffic 2 trees 2\ntree 0 cells 46 stored 68 pushes 104 hanging 12 enclave 24 skeleton 16 sent 24\ntree 1 cells 20 stored 36 pushes 38 hanging 6 enclave 2 skeleton 15 sent 24\n",
+    ),
+];
+
 // Each file by so many trees, and its report.
 #[test]
 fn worlds_report_their_trees(rt: HostRuntime) -> Result<(), EvalFault> {
     let alloc = rt.alloc();
-    let table = [
-        (
-            "space",
-            SPACE,
-            1,
-            Shows::Traffic,
-            "traffic 1 trees 1\ntree 0 cells 28 stored 72 pushes 152 hanging 0 enclave 27 skeleton 0 sent 0\n",
-        ),
-        (
-            "nine leaves",
-            NINE_LEAVES,
-            1,
-            Shows::Traffic,
-            "traffic 1 trees 1\ntree 0 cells 10 stored 20 pushes 20 hanging 0 enclave 9 skeleton 0 sent 0\n",
-        ),
-        (
-            "nine leaves of two trees",
-            NINE_LEAVES,
-            2,
-            Shows::Traffic,
-            "traffic 1 trees 2\ntree 0 cells 5 stored 14 pushes 6 hanging 0 enclave 0 skeleton 4 sent 9\ntree 1 cells 6 stored 15 pushes 9 hanging 0 enclave 1 skeleton 4 sent 9\n",
-        ),
-        (
-            "refined centre",
-            REFINED_CENTRE,
-            1,
-            Shows::Traffic,
-            "traffic 0 trees 1\ntree 0 cells 19 stored 24 pushes 32 hanging 20 enclave 1 skeleton 16 sent 0\n",
-        ),
-        (
-            "two refined",
-            TWO_REFINED,
-            2,
-            Shows::Traffic,
-            "traffic 2 trees 2\ntree 0 cells 14 stored 23 pushes 22 hanging 11 enclave 4 skeleton 8 sent 9\ntree 1 cells 15 stored 19 pushes 21 hanging 20 enclave 1 skeleton 12 sent 9\n",
-        ),
-        (
-            "inflow",
-            INFLOW,
-            2,
-            Shows::Traffic,
-            "traffic 0 trees 2\ntree 0 cells 10 stored 18 pushes 12 hanging 10 enclave 0 skeleton 8 sent 13\ntree 1 cells 11 stored 19 pushes 15 hanging 10 enclave 0 skeleton 9 sent 13\ntraffic 1 trees 2\ntree 0 cells 6 stored 15 pushes 9 hanging 0 enclave 0 skeleton 4 sent 10\ntree 1 cells 6 stored 15 pushes 9 hanging 0 enclave 0 skeleton 5 sent 10\ntraffic 2 trees 2\ntree 0 cells 46 stored 68 pushes 104 hanging 12 enclave 24 skeleton 16 sent 24\ntree 1 cells 20 stored 36 pushes 38 hanging 6 enclave 2 skeleton 15 sent 24\n",
-        ),
-        (
-            "single cell",
-            SINGLE_CELL,
-            3,
-            Shows::All,
-            "step 0 leaves 1\n0 0 0 7\ntraffic 0 trees 3\ntree 0 cells 0 stored 0 pushes 0 hanging 0 enclave 0 skeleton 0 sent 0\ntree 1 cells 0 stored 0 pushes 0 hanging 0 enclave 0 skeleton 0 sent 0\ntree 2 cells 1 stored 4 pushes 0 hanging 0 enclave 1 skeleton 0 sent 0\n",
-        ),
-        (
-            "inflow, all",
-            INFLOW,
-            2,
-            Shows::All,
-            "step 0 leaves 17\n1 0 0 0\n1 0 1 0\n1 0 2 0\n1 1 0 0\n1 1 2 0\n1 2 0 0\n1 2 1 0\n1 2 2 0\n2 3 3 0\n2 3 4 0\n2 3 5 0\n2 4 3 0\n2 4 4 0\n2 4 5 0\n2 5 3 0\n2 5 4 0\n2 5 5 0\ntraffic 0 trees 2\ntree 0 cells 10 stored 18 pushes 12 hanging 10 enclave 0 skeleton 8 sent 13\ntree 1 cells 11 stored 19 pushes 15 hanging 10 enclave 0 skeleton 9 sent 13\nstep 1 leaves 9\n1 0 0 100\n1 0 1 100\n1 0 2 100\n1 1 0 0\n1 1 1 0\n1 1 2 0\n1 2 0 0\n1 2 1 0\n1 2 2 0\ntraffic 1 trees 2\ntree 0 cells 6 stored 15 pushes 9 hanging 0 enclave 0 skeleton 4 sent 10\ntree 1 cells 6 stored 15 pushes 9 hanging 0 enclave 0 skeleton 5 sent 10\nstep 2 leaves 57\n1 2 0 0\n1 2 1 0\n1 2 2 0\n2 0 0 100\n2 0 1 100\n2 0 2 100\n2 0 3 100\n2 0 4 100\n2 0 5 100\n2 0 6 100\n2 0 7 100\n2 0 8 100\n2 1 0 100\n2 1 1 100\n2 1 2 100\n2 1 3 100\n2 1 4 100\n2 1 5 100\n2 1 6 100\n2 1 7 100\n2 1 8 100\n2 2 0 100\n2 2 1 100\n2 2 2 100\n2 2 3 100\n2 2 4 100\n2 2 5 100\n2 2 6 100\n2 2 7 100\n2 2 8 100\n2 3 0 100\n2 3 1 100\n2 3 2 100\n2 3 3 100\n2 3 4 100\n2 3 5 100\n2 3 6 100\n2 3 7 100\n2 3 8 100\n2 4 0 100\n2 4 1 100\n2 4 2 100\n2 4 3 100\n2 4 4 100\n2 4 5 100\n2 4 6 100\n2 4 7 100\n2 4 8 100\n2 5 0 100\n2 5 1 100\n2 5 2 100\n2 5 3 100\n2 5 4 100\n2 5 5 100\n2 5 6 100\n2 5 7 100\n2 5 8 100\ntraffic 2 trees 2\ntree 0 cells 46 stored 68 pushes 104 hanging 12 enclave 24 skeleton 16 sent 24\ntree 1 cells 20 stored 36 pushes 38 hanging 6 enclave 2 skeleton 15 sent 24\n",
-        ),
-    ];
-    for (name, file, trees, shows, want) in table {
+    for (name, file, trees, shows, want) in REPORTS {
         let plan = plan_of(&rt, alloc, file)?;
         let mut world = world_of(&rt, alloc, &plan, trees)?;
         let report = report_of(&rt, alloc, &plan, &mut world, shows)?;

@@ -22,7 +22,7 @@ fn overflow(step: u32, x: [u32; 3]) -> Result<(u64, u64), EvalFault> {
 }
 
 // Each worked file, and how many leaves there are at first and in the end.
-const WORKED: [(&str, &str, u64, u64); 16] = [
+const WORKED: [(&str, &str, u64, u64); 17] = [
     ("single cell", SINGLE_CELL, 1, 1),
     ("nine leaves", NINE_LEAVES, 9, 9),
     ("floored", FLOORED, 9, 9),
@@ -39,6 +39,7 @@ const WORKED: [(&str, &str, u64, u64); 16] = [
     ("not kept", NOT_KEPT, 25, 9),
     ("flat", FLAT, 81, 81),
     ("deep", DEEP, 65, 65),
+    ("means", MEANS, 33, 41),
 ];
 
 // Worlds of so many trees and with so many helpers are where the evaluation of each worked file is.

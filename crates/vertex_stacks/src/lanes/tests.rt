@@ -200,6 +200,7 @@ fn the_tale_counts_each_kind_and_sums_what_was_moved(rt: HostRuntime) {
         (Kind::Secondary, 2, [1, 1, 1, 1, 0, 0], 3, 4, 7),
         (Kind::Adapt, 1, [1, 1, 1, 1, 1, 0], 4, 5, 8),
         (Kind::Show, 4, [1, 2, 1, 1, 1, 0], 5, 6, 12),
+        (Kind::Recut, 2, [1, 2, 1, 1, 1, 1], 6, 7, 14),
     ] {
         let Some(note) = sweep(&mut lanes, kind, times) else {
             return assert!(rt; false, "no note of {kind:?}");

@@ -27,15 +27,8 @@ returns-in_err-next-clause-err g c =
     (next_fails updated marked c.args.grid f c.args.step c.in_err-next.field-0.0 (updates_made updated (g.S.Solver.parts_of c.args.solver.now) c.args.grid f c.in_ok-update.update.states update.field update.states)
     (c.in_err-next.ensures.err (marks_of marked c.args.grid f) update.marks))) c.from_residual-in_err-next.ensures.1
 
-pub next_field-requires-clause-next : goal.next_field-requires-clause-next
-next_field-requires-clause-next g c =
-    let f : States = c.args.field.now in
-    let marks = marks_of (g.S.Solver.marked c.args.solver.now) c.args.grid f in
-    next_is_grid 12 c.args.grid c.in_ok-next.next marks c.in_ok-leaves.ensures.served.grid (c.in_ok-next.ensures.ok marks c.in_ok-update.ensures.marks)
-    (λ q e. omega (arith, (g.met.S.Solver g.world.𝓛 g.world.𝓜 g.world.𝓡 ((λ s x. x), (λ x. x), (λ x. x), λ x. x)).refines_above c.args.solver.now (state_at f q) (sides_of c.args.grid f q) q.level e, c.requires.deepest))
-
-pub next_field-requires-clause-dim : goal.next_field-requires-clause-dim
-next_field-requires-clause-dim g c = (c.in_ok-next.ensures.ok (marks_of (g.S.Solver.marked c.args.solver.now) c.args.grid c.args.field.now) c.in_ok-update.ensures.marks).dim
+pub next_field-requires : goal.next_field-requires
+next_field-requires g c = (c.in_ok-next.ensures.ok (marks_of (g.S.Solver.marked c.args.solver.now) c.args.grid c.args.field.now) c.in_ok-update.ensures.marks).dim
 
 pub returns-clause-ok : goal.returns-clause-ok
 returns-clause-ok g c =

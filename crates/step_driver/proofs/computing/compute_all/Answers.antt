@@ -1,4 +1,4 @@
-use Rattle.std.proofs.Common.{◌≡◌, ◌<◌, ◌≤◌, ◌+◌, [], ◌∷◌, ◌++◌, List, length, sym, subst, ◌∙◌, arith}
+use Rattle.std.proofs.Common.{◌≡◌, ◌<◌, ◌+◌, [], ◌∷◌, ◌++◌, List, length, sym, subst, ◌∙◌, arith}
 use Rattle.curve_cuts.specs.Keys.{cuts_of}
 use Rattle.vertex_stacks.specs.declared.kind.Kind.TheVariants.{Primary}
 use Rattle.step_world.specs.Notes.{note_over}

@@ -1,4 +1,3 @@
-use Rattle.step_sweeps.specs.Kernels.{Kernel}
 use Rattle.step_driver.proofs.Computed.{if_ok}
 use Rattle.step_driver.proofs.Jobs.{jobs_can, jobs_gave}
 use Rattle.step_driver.proofs.computing.compute_each.Goals as goal

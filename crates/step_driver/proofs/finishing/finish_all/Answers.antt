@@ -1,4 +1,5 @@
-use Rattle.std.proofs.Common.{◌≡◌, ◌<◌, ◌+◌, List, length, sym, subst, ◌∙◌, arith}
+use Rattle.std.proofs.Common.{◌≡◌, ◌<◌, ◌+◌, List, length, ap, sym, subst, ◌∙◌, arith}
+use Rattle.std.proofs.lemmas.List.{length-map}
 use Rattle.curve_cuts.specs.Keys.{cuts_of}
 use Rattle.step_driver.specs.declared.beside.Swept.{Swept}
 use Rattle.step_driver.specs.Gives.{EachGives}
@@ -11,7 +12,7 @@ use Rattle.step_driver.proofs.Gives.{each_given, each_is, gives_item, below_tree
 use Rattle.vertex_stacks.specs.declared.kind.Kind.TheVariants.{Secondary}
 use Rattle.step_world.specs.Notes.{note_over}
 use Rattle.step_sweeps.specs.Sweeps.{CanFinish}
-use Rattle.step_sweeps.specs.declared.tally.Tally.{Tally}
+use Rattle.step_driver.specs.declared.finishing.TreeFindings.{TreeFindings}
 use Rattle.step_driver.specs.Finishing.{Finishes, CountedFirst}
 use Rattle.step_driver.proofs.Finished.{none_finished, finished_more, stores_finished}
 use Rattle.step_driver.proofs.finishing.finish_all.Goals as goal
@@ -44,7 +45,7 @@ loop-tree-preserved g c = λ dir w f all.
     let may = jobs_give c.args.stores.items c.in_ok-jobs.jobs.items c.in_ok-jobs.ensures.firsts (Finishes kernel k c.args.step) c.in_ok-finish_each.field-0.items c.in_ok-finish_each.ensures in
     let m = c.loop-tree.tree-index in
     let item = c.tree-item.result in
-    let gives = subst (λ (s : List (Swept Tally)). EachGives (Finishes kernel k c.args.step) c.args.stores.items s) (sym c.deref-tree-items.ensures.value) (each_given (Finishes kernel k c.args.step) c.args.stores.items c.in_ok-finish_each.field-0.items c.in_ok-swept.swept.items may c.in_ok-swept.ensures) in
+    let gives = subst (λ (s : List (Swept TreeFindings)). EachGives (Finishes kernel k c.args.step) c.args.stores.items s) (sym c.deref-tree-items.ensures.value) (each_given (Finishes kernel k c.args.step) c.args.stores.items c.in_ok-finish_each.field-0.items c.in_ok-swept.swept.items may c.in_ok-swept.ensures) in
     let below : c.loop-tree.tree-index < k.trees = below_trees (c.in_ok-finish_each.field-0.items) c.in_ok-swept.swept.items c.deref-tree-items.result.now c.loop-tree.tree-index k.trees c.in_ok-swept.ensures (may.count ∙ all.count) c.deref-tree-items.ensures.value c.loop-tree-test.true in
     let inside : m < length c.args.stores.items = omega (arith, below, all.count) in
     let finishes = gives_item (Finishes kernel k c.args.step) c.args.stores.items c.deref-tree-items.result.now m no_store item gives inside c.tree-item.is in
@@ -68,6 +69,7 @@ returns-clause-finished g c = λ dir w f all.
     let gives = each_given (Finishes kernel k c.args.step) c.args.stores.items c.in_ok-finish_each.field-0.items swept may c.in_ok-swept.ensures in
     let whole : c.loop-tree.tree-index ≡ k.trees = all_trees (c.in_ok-finish_each.field-0.items) c.in_ok-swept.swept.items c.deref-tree-items.result.now c.loop-tree.tree-index k.trees c.in_ok-swept.ensures (may.count ∙ all.count) c.deref-tree-items.ensures.value c.loop-tree-test.false c.loop-tree.auto.tree-index-end in
     record {
-      trees = stores_finished kernel k c.args.step dir w f c.args.stores.items c.in_ok-stores.stores.items swept all gives c.in_ok-stores.ensures;
+      trees = stores_finished kernel k c.args.step dir w f c.args.stores.items c.in_ok-stores.stores.items c.in_ok-stores.partials.items swept all gives c.in_ok-stores.ensures.stores c.in_ok-stores.ensures.partials;
+      handed = ap length c.in_ok-stores.ensures.partials ∙ length-map swept (λ (r : Swept TreeFindings). r.found.partials) ∙ gives.count ∙ all.count;
       counted = subst (λ n. CountedFirst k w c.args.step n c.args.notes.now.items c.loop-tree.notes.items c.loop-tree.found) whole (c.loop-tree.invariant dir w f all);
     }

@@ -1,4 +1,4 @@
-use Rattle.std.proofs.Common.{List, [], sym, subst, ◌∙◌}
+use Rattle.std.proofs.Common.{List, sym, subst, ◌∙◌}
 use Rattle.vertex_stacks.specs.Notes.{Note}
 use Rattle.step_driver.specs.Computing.{AreComputed}
 use Rattle.curve_cuts.specs.Keys.{cuts_of}

@@ -15,14 +15,14 @@ sweep-swept-requires g c =
 
 pub returns-in-Ok-clause-swept : goal.returns-in-Ok-clause-swept
 returns-in-Ok-clause-swept g c = λ dir change field marked.
-    secondary_told (λ s. record { parts = g.S.Solver.parts_of s; updated = g.S.Solver.updated s; marked = g.S.Solver.marked s }) c.new-visitor.result c.sweep-swept.new.visitor _ dir change field c.args.step c.args.store.now c.sweep-swept.new.store c.in-Ok.note c.close-tasks.result.1
-    c.new-visitor.ensures refl refl refl refl c.tree-tree.ensures marked c.in-Ok.ensures.done c.in-Ok.ensures.rest c.close-tasks.ensures.tally
+    secondary_told (λ s. record { parts = g.S.Solver.parts_of s; updated = g.S.Solver.updated s; marked = g.S.Solver.marked s }) c.new-visitor.result c.sweep-swept.new.visitor _ dir change field c.args.step c.args.store.now c.sweep-swept.new.store c.in-Ok.note c.close-tasks.result.1 c.partials-partials.result
+    c.new-visitor.ensures (record { levels = refl; sums = refl; splits = refl; merges = refl; partials = refl; failing = refl }) c.tree-tree.ensures marked c.in-Ok.ensures.done c.in-Ok.ensures.rest c.close-tasks.ensures.tally c.partials-partials.ensures
 
 pub returns-in-Ok-clause-all : goal.returns-in-Ok-clause-all
 returns-in-Ok-clause-all g c = λ dir change field marked spawned.
     subst (λ (x : TasksSeen _). CollectedAll x.seat c.args.tasks.spawned) (sym c.close-tasks.ensures.tasks)
     (gathered_told (λ s. record { parts = g.S.Solver.parts_of s; updated = g.S.Solver.updated s; marked = g.S.Solver.marked s }) c.new-visitor.result c.sweep-swept.new.visitor _ dir change field c.args.step c.args.store.now c.sweep-swept.new.store c.in-Ok.note c.args.tasks
-    c.new-visitor.ensures refl refl refl refl c.tree-tree.ensures marked c.in-Ok.ensures.done c.in-Ok.ensures.rest c.turn.ensures spawned)
+    c.new-visitor.ensures (record { levels = refl; sums = refl; splits = refl; merges = refl; partials = refl; failing = refl }) c.tree-tree.ensures marked c.in-Ok.ensures.done c.in-Ok.ensures.rest c.turn.ensures spawned)
 
 pub returns-in-Ok-clause-roomy : goal.returns-in-Ok-clause-roomy
 returns-in-Ok-clause-roomy g c =

@@ -13,3 +13,6 @@ invariant_of-result g c = (
         (let size = c.in_ok-keys.ensures.first.2.trees in let most = c.requires.most in omega (arith, size, most)) c.in_ok-keys.ensures.fits c.requires.field c.in_ok-forest.ensures c.cell_count.ensures.value (let value = c.cell_count.ensures.value in let limit = c.cell_count.ensures.limit in omega (arith, value, limit)),
   ),
 )
+
+pub plant-requires-clause-field : goal.plant-requires-clause-field
+plant-requires-clause-field g c κs within = (g.S.Solver.parts_of c.args.solver, c.requires.field)

@@ -1,0 +1,4 @@
+pub mod Curves
+pub mod Lists
+pub mod NextSums
+pub mod Steps

@@ -1,0 +1,10 @@
+pub mod Keys
+pub mod Sums
+pub mod Found
+pub mod Own
+pub mod Written
+pub mod Progress
+pub mod Stored
+pub mod Added
+pub mod Lacking
+pub mod Small

@@ -1,0 +1,4 @@
+pub mod Found
+pub mod Totals
+pub mod Fits
+pub mod Added

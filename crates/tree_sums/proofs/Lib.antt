@@ -1,0 +1,9 @@
+pub mod Trees
+pub mod Partials
+pub mod Corrections
+pub mod Totals
+pub mod Bounds
+pub mod Walks
+pub mod Unheld
+pub mod Changes
+pub mod Steps
