@@ -6,6 +6,7 @@ ghost use Rattle.spacetree.specs.Fields.{IsFieldOn};
 ghost use Rattle.grid_file.specs.Valid.{IsPlan};
 
 use anyhow::Result;
+use field_report::Traffic;
 use grid_file::{Plan, read_plan};
 use peano_keys::Dim;
 use solver_api::Solver;
@@ -18,12 +19,14 @@ use step_driver::World;
 use task_pool::Through;
 use volume_solver::AnySolver;
 
-// The leaves of all steps, and the nanoseconds: of the steps, and of showing the world once.
+/// The leaves of all steps, the nanoseconds of the steps and of showing the world once, and the leaves that the fullest tree
+/// owns at the end.
 #[derive(Clone, Copy)]
-struct Times {
-    leaves: u64,
-    steps: u64,
-    show: u64,
+pub struct Times {
+    pub leaves: u64,
+    pub steps: u64,
+    pub show: u64,
+    pub fullest: u64,
 }
 
 fn nanos(clock: &impl Clock, start: &Instant) -> io::Result<u64> {
@@ -31,8 +34,8 @@ fn nanos(clock: &impl Clock, start: &Instant) -> io::Result<u64> {
     Ok(u64::try_from(spent.as_nanos()).unwrap_or(u64::MAX))
 }
 
-// How many leaves a grid of so many cells has.
-fn leaves_among(dim: Dim, cells: u64) -> u64 {
+/// How many leaves a grid of so many cells has.
+pub fn leaves_among(dim: Dim, cells: u64) -> u64 {
     let fan = match dim {
         Dim::Two => 9,
         Dim::Three => 27,
@@ -40,8 +43,8 @@ fn leaves_among(dim: Dim, cells: u64) -> u64 {
     cells - cells.saturating_sub(1) / fan
 }
 
-// The grid and the field of a plan.
-fn opened(alloc: Global, plan: &Plan) -> Result<(Grid, Field)>
+/// The grid and the field of a plan.
+pub fn opened(alloc: Global, plan: &Plan) -> Result<(Grid, Field)>
     requires { IsPlan plan.now }
     ensures grid { IfOk result (λ r. IsGrid plan.now.shape.depth r.0) }
     ensures served { IfOk result (λ r. IsGrid 12 r.0) }
@@ -52,8 +55,15 @@ fn opened(alloc: Global, plan: &Plan) -> Result<(Grid, Field)>
     Ok((grid, field))
 }
 
-// Takes so many steps of a world, as far as it is live, and shows it in the end.
-fn time_world<R: Clock + Threads + Sync + Alloc<A = Global>>(
+// How many leaves the tree owns that owns the most.
+fn fullest_of(traffic: &[Traffic]) -> u64 {
+    traffic.iter().fold(0, |most, tree| {
+        most.max(tree.enclave.saturating_add(tree.skeleton))
+    })
+}
+
+/// Takes so many steps of a world, as far as it is live, and shows it in the end.
+pub fn time_world<R: Clock + Threads + Sync + Alloc<A = Global>>(
     rt: &R,
     dim: Dim,
     world: &mut World<AnySolver>,
@@ -70,14 +80,17 @@ fn time_world<R: Clock + Threads + Sync + Alloc<A = Global>>(
     }
     let steps = nanos(rt, &start)?;
     let start = Instant::now(rt)?;
+    let mut fullest: u64 = 0;
     if world.is_live() {
-        world.show(rt, rt.alloc())?;
+        let shown = world.show(rt, rt.alloc())?;
+        fullest = fullest_of(shown.traffic.as_slice());
     }
     let show = nanos(rt, &start)?;
     Ok(Times {
         leaves,
         steps,
         show,
+        fullest,
     })
 }
 
@@ -97,8 +110,8 @@ fn time_evaluator<R: Clock + Threads + Sync + Alloc<A = Global>>(
     Ok(nanos(rt, &start)?)
 }
 
-// So many nanoseconds, for each of some leaves.
-fn each(nanos: u64, leaves: u64) -> u64 {
+/// So many nanoseconds, for each of some leaves.
+pub fn each(nanos: u64, leaves: u64) -> u64 {
     nanos.checked_div(leaves).unwrap_or(0)
 }
 
@@ -124,6 +137,7 @@ pub fn tell<R: Clock + Threads + Sync + Alloc<A = Global> + Print>(
         &field,
         plan.solver,
         count,
+        plan.recut_every,
     )?;
     let raised = nanos(rt, &raising)?;
     let times = time_world(rt, plan.shape.dim, &mut world, plan.steps, workers)?;

@@ -150,6 +150,7 @@ module _ (n : ℕ) where
     solver = demo_solver;
     steps = 20;
     print_every = None;
+    recut_every = None;
   }
 
 pub is_of_document : IsOfDocument

@@ -46,8 +46,8 @@ pub shape_fits : (n : ℕ) → IsShape (demo n).shape
 shape_fits n = record { depth = omega arith; base = omega arith; zones = zones_fit n }
 
 pub is_valid : IsValid
-is_valid n = record { shape = shape_fits n; depth = omega arith; fills = fills_fit n; deepest = omega arith; steps = omega arith }
+is_valid n = record { shape = shape_fits n; depth = omega arith; fills = fills_fit n; deepest = omega arith; steps = omega arith; recut_least = tt; recut_most = tt }
 
 -- a plan of these parts is the demonstration's
-pub same_plan : (n : ℕ) (fills : List Fill) (zones : List Zone) (solver : AnySolver) → fills ≡ map (fill_at n) (range_with_len 0 12) → zones ≡ map (zone_at n) (range_with_len 0 8) → solver ≡ demo_solver → record { shape = record { dim = Two; depth = 5; base = 3; zones = zones }; fills = fills; solver = solver; steps = 20; print_every = None } ≡ demo n
-same_plan n fills zones solver e g h = λ i. record { shape = record { dim = Two; depth = 5; base = 3; zones = g i }; fills = e i; solver = h i; steps = 20; print_every = None }
+pub same_plan : (n : ℕ) (fills : List Fill) (zones : List Zone) (solver : AnySolver) → fills ≡ map (fill_at n) (range_with_len 0 12) → zones ≡ map (zone_at n) (range_with_len 0 8) → solver ≡ demo_solver → record { shape = record { dim = Two; depth = 5; base = 3; zones = zones }; fills = fills; solver = solver; steps = 20; print_every = None; recut_every = None } ≡ demo n
+same_plan n fills zones solver e g h = λ i. record { shape = record { dim = Two; depth = 5; base = 3; zones = g i }; fills = e i; solver = h i; steps = 20; print_every = None; recut_every = None }

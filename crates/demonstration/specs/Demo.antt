@@ -60,4 +60,5 @@ demo n = record {
   solver = demo_solver;
   steps = 20;
   print_every = None;
+  recut_every = None;
 }

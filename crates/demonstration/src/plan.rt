@@ -56,5 +56,6 @@ pub fn demo_plan(alloc: Global, n: u64) -> Result<Plan, AllocError>
         solver: solver(),
         steps: 20,
         print_every: None,
+        recut_every: None,
     })
 }

@@ -170,7 +170,10 @@ fn the_rest_of_a_plan(rt: HostRuntime) -> Result<(), Fail> {
     let plan = demo_plan(rt.alloc(), 7)?;
     assert_eq!(rt; plan.shape.dim, Dim::Two);
     assert_eq!(rt; (plan.shape.depth, plan.shape.base), (5, 3));
-    assert_eq!(rt; (plan.steps, plan.print_every), (20, None));
+    assert_eq!(rt;
+        (plan.steps, plan.print_every, plan.recut_every),
+        (20, None, None)
+    );
     assert!(rt; plan.solver.adapts());
     assert_eq!(rt; plan.solver.deepest(), 5);
     Ok(())

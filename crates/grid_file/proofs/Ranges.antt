@@ -1,6 +1,6 @@
 -- What a document says is in its range wherever it is not refused, so a plan with nothing refused is within its ranges.
 use Rattle.std.proofs.Common.{◌≡◌, ℕ, ℤ, pos, negsuc, ◌+◌, ◌-◌, ◌^◌, ◌≤◌, ◌&&◌, List, [], ◌∷◌, ◌++◌, Option, Some, None, Bool, true, false, cond, Result, Ok, Err, IfSome, IfOk, All, nat_le, unwrap_or, slice_index, refl, sym, subst, ◌∙◌, arith}
-use Rattle.std.specs.Option.{option_or, option_and_then}
+use Rattle.std.specs.Option.{option_or, option_and_then, option_map}
 use Rattle.std.proofs.lemmas.Option.{none-some}
 use Rattle.std.proofs.lemmas.Bool.Decides.{nat_tests}
 use Rattle.std.proofs.lemmas.List.Elements.{All-nil, All-cons}
@@ -21,21 +21,23 @@ use Rattle.spacetree.specs.Opening.{IsFill, IsBox}
 use Rattle.grid_file.specs.declared.place.Part.{Part}
 use Rattle.grid_file.specs.declared.place.Part.TheVariants.{Document, FillList, Fill, RefineList, Refine}
 use Rattle.grid_file.specs.declared.place.KeyName.{KeyName}
-use Rattle.grid_file.specs.declared.place.KeyName.TheVariants.{Whole, Depth, Base, Steps, Level, From, To, Value, Until, Criterion as CriterionKey, Fill as FillKey, Refine as RefineKey}
+use Rattle.grid_file.specs.declared.place.KeyName.TheVariants.{Whole, Depth, Base, Steps, RecutEvery, Level, From, To, Value, Until, Criterion as CriterionKey, Fill as FillKey, Refine as RefineKey}
 use Rattle.grid_file.specs.declared.fault.PlanFault.{PlanFault}
 use Rattle.grid_file.specs.declared.solver.SolverName.{SolverName}
 use Rattle.grid_file.specs.declared.solver.SolverName.TheVariants.{Diffuse, Advect, Wave}
 use Rattle.grid_file.specs.declared.plan.Plan.{Plan}
 use Rattle.grid_file.specs.declared.limits.TheConstants.{DEEPEST, MOST_STEPS}
 use Rattle.grid_file.specs.declared.solver.Rates.{Rates}
+use Rattle.grid_file.specs.declared.version.Version.{Version}
+use Rattle.grid_file.specs.declared.version.Version.TheVariants.{First, Second}
 use Rattle.grid_file.specs.Tree.{whole_in, number_in, number_or, items_at, table_at, list_in}
 use Rattle.grid_file.specs.Faults.{Check, first, Gives}
-use Rattle.grid_file.specs.Values.{parts_of, corner_from, corner_within, from_in, to_in, beyond, single_from, pair_from, values_in, state_in}
-use Rattle.grid_file.specs.Keys.{at_key, key_check, in_table, in_each, listed}
-use Rattle.grid_file.specs.Head.{depth_in, depth_of, base_in, base_of, dim_of, solver_of}
-use Rattle.grid_file.specs.Solvers.{criterion_from, solver_from}
+use Rattle.grid_file.specs.Values.{parts_of, corner_from, corner_within, from_in, to_in, beyond, single_from, pair_from, values_in, state_in, every_in}
+use Rattle.grid_file.specs.Keys.{at_key, key_check, version_of, in_table, in_each, listed}
+use Rattle.grid_file.specs.Head.{deepest_of, depth_in, depth_of, base_in, base_of, dim_of, solver_of}
+use Rattle.grid_file.specs.Solvers.{criterion_from, edge_checks, solver_from}
 use Rattle.grid_file.specs.Boxes.{put_before, read_each, list_checks, level_in, level_of, lower_in, lower_of, upper_in, upper_of, box_checks, fill_checks, fill_from, until_in, zone_checks, zone_from}
-use Rattle.grid_file.specs.Plan.{steps_in, steps_of, plan_from, plan_in}
+use Rattle.grid_file.specs.Plan.{steps_in, steps_of, recut_every_of, steps_checks, print_checks, recut_checks, plan_from, plan_in}
 use Rattle.grid_file.specs.Stages.{head_fault, tail_fault, body_fault, first_fault}
 use Rattle.grid_file.specs.Valid.{IsPlan}
 use Rattle.grid_file.proofs.Searches.{first_append}
@@ -45,6 +47,13 @@ use Rattle.grid_file.proofs.Searches.{first_append}
 both_none : {T : Type 0} (a b : Option T) → option_or a b ≡ None → (a ≡ None) × (b ≡ None)
 both_none (Some x) b h = absurd (none-some x (sym h))
 both_none None b h = (refl, h)
+
+-- the last of four
+last_none : {T : Type 0} (a b c d : Option T) → option_or a (option_or b (option_or c (option_or d None))) ≡ None → d ≡ None
+last_none a b c d h =
+    let left = both_none a (option_or b (option_or c (option_or d None))) h in
+    let more = both_none b (option_or c (option_or d None)) left.1 in
+    (both_none d None (both_none c (option_or d None) more.1).1).0
 
 key_rest : {T : Type 0} (code : ℕ) (part : Part) (n : ℕ) (key : KeyName) (o : Option T) (cs : List Check) → first code (key_check part n key o ∷ cs) ≡ None → first code cs ≡ None
 key_rest code part n key (Some x) cs h = h
@@ -251,11 +260,17 @@ watch_range depth s None = omega arith
 
 -- the document
 
+-- no version goes deeper than the deepest level
+deepest_served : (v : Version) (depth : ℕ) → depth ≤ deepest_of v → depth ≤ DEEPEST
+deepest_served First depth h = omega (arith, h)
+deepest_served Second depth h = h
+
 depth_range : (t : Members) → head_fault t ≡ None → depth_of t ≤ DEEPEST
 depth_range t h =
+    let deepest = deepest_of (version_of t) in
     let dim = both_none _ _ h in
     let depth = both_none _ _ dim.1 in
-    (key_range (IsBetween 0 DEEPEST) 5 Document 0 Depth (depth_in t) 0 [] (number_range 0 DEEPEST (at_key Depth t)) depth.0).1
+    deepest_served (version_of t) (depth_of t) (key_range (IsBetween 0 deepest) 5 Document 0 Depth (depth_in t) 0 [] (number_range 0 deepest (at_key Depth t)) depth.0).1
 
 base_range : (t : Members) → head_fault t ≡ None → base_of (depth_of t) t ≤ depth_of t
 base_range t h =
@@ -269,6 +284,23 @@ steps_range solver t h =
     let edge = both_none _ _ h in
     let steps = both_none _ _ edge.1 in
     (key_range (IsBetween 0 MOST_STEPS) 13 Document 0 Steps (steps_in t) 0 [] (number_range 0 MOST_STEPS (at_key Steps t)) steps.0).1
+
+-- a number of steps that a key says, where it stands
+abbrev IsEvery : Option ℕ → Type 0
+IsEvery every = IfSome every (λ n. 1 ≤ n) × IfSome every (λ n. n ≤ MOST_STEPS)
+
+known_every : (o : Option ℕ) → IfSome o (IsBetween 1 MOST_STEPS) → IfSome (option_map Some o) IsEvery
+known_every (Some n) h = h
+known_every None h = tt
+
+every_range : (o : Option Data) → IfSome (every_in o) IsEvery
+every_range (Some d) = known_every (number_in 1 MOST_STEPS (Some d)) (number_range 1 MOST_STEPS (Some d))
+every_range None = (tt, tt)
+
+recut_range : (solver : SolverName) (t : Members) → tail_fault solver t ≡ None → IsEvery (recut_every_of t)
+recut_range solver t h =
+    key_range IsEvery 15 Document 0 RecutEvery (every_in (at_key RecutEvery t)) None [] (every_range (at_key RecutEvery t))
+    (last_none (first 12 (edge_checks solver t)) (first 13 (steps_checks t)) (first 14 (print_checks t)) (first 15 (recut_checks t)) h)
 
 parts_range : (dim : dims.Dim) (depth : ℕ) (solver : SolverName) (t : Members) → parts_in (plan_from dim depth solver t).solver ≡ parts_of solver
 parts_range dim depth solver t = solver_parts solver dim _ _ _
@@ -295,6 +327,8 @@ body_range dim depth solver t deep base h =
       fills = subst (λ parts. All (IsFill parts) (read_each (fill_from dim depth solver) (listed (at_key FillKey t)))) (sym (parts_range dim depth solver t)) (list_range (IsFill (parts_of solver)) 10 FillList (fill_checks dim depth solver) (fill_from dim depth solver) (fill_range dim depth solver deep) (at_key FillKey t) fills.0);
       deepest = deepest_range dim depth solver t;
       steps = steps_range solver t zones.1;
+      recut_least = (recut_range solver t zones.1).0;
+      recut_most = (recut_range solver t zones.1).1;
     }
 
 -- the plan of a document in which nothing is refused

@@ -3,24 +3,31 @@ use Rattle.std.specs.Prelude.{ℕ, Bool, true, false, not, List, [], ◌∷◌, 
 use Rattle.toml.specs.Data.{Members}
 use Rattle.peano_keys.specs.declared.dim.Dim as dims
 use Rattle.peano_keys.specs.declared.dim.Dim.TheVariants.{Two}
-use Rattle.grid_file.specs.declared.limits.TheConstants.{DEEPEST}
+use Rattle.grid_file.specs.declared.limits.TheConstants.{DEEPEST, DEEPEST_OF_FIRST}
 use Rattle.grid_file.specs.declared.place.Part.TheVariants.{Document}
 use Rattle.grid_file.specs.declared.place.KeyName.TheVariants as key
 use Rattle.grid_file.specs.declared.solver.SolverName.{SolverName}
 use Rattle.grid_file.specs.declared.solver.SolverName.TheVariants.{Diffuse}
+use Rattle.grid_file.specs.declared.version.Version.{Version}
+use Rattle.grid_file.specs.declared.version.Version.TheVariants.{First, Second}
 use Rattle.grid_file.specs.Places.{document_key}
 use Rattle.grid_file.specs.Faults.{Check, check}
 use Rattle.grid_file.specs.Tree.{number_in}
 use Rattle.grid_file.specs.Values.{dimension_in, solver_in, takes_a, takes_wind}
-use Rattle.grid_file.specs.Keys.{at_key, key_check}
+use Rattle.grid_file.specs.Keys.{at_key, key_check, version_of}
 
 -- the dimension
 abbrev pub dim_of : Members → dims.Dim
 dim_of t = unwrap_or (dimension_in (at_key key.Dim t)) Two
 
--- the depth
+-- the deepest level that a document of a version may ask for
+abbrev pub deepest_of : Version → ℕ
+deepest_of First = DEEPEST_OF_FIRST
+deepest_of Second = DEEPEST
+
+-- the depth, at most the deepest level of the version
 abbrev pub depth_in : Members → Option ℕ
-depth_in t = number_in 0 DEEPEST (at_key key.Depth t)
+depth_in t = number_in 0 (deepest_of (version_of t)) (at_key key.Depth t)
 
 -- the depth that the document has, 0 where none is right
 abbrev pub depth_of : Members → ℕ

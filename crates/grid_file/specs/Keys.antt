@@ -1,17 +1,23 @@
--- Keys of tables: what stands at one, which are listed for a part and which it needs; codes 2 and 3, in each table of a file.
-use Rattle.std.specs.Prelude.{ℕ, Bool, true, false, not, List, [], ◌∷◌, ◌++◌, Option, Some, None, ◌+◌, ◌&&◌, ◌||◌, unwrap_or, is_none}
+-- Keys of tables: what stands at one, which are listed for a part and which it needs; the version of a file; codes 2 and 3, in each table of a file.
+use Rattle.std.specs.Prelude.{ℕ, Bool, true, false, not, List, [], ◌∷◌, ◌++◌, Option, Some, None, ◌+◌, ◌&&◌, ◌||◌, unwrap_or, is_none, is_some, if◌then◌else◌}
 use Rattle.toml.specs.Data.{Data, Items, Members, as_table, get_member, no_items, item, no_members, member}
 use Rattle.grid_file.specs.declared.place.Part.{Part}
 use Rattle.grid_file.specs.declared.place.Part.TheVariants.{Document, Criterion, Fill, Refine}
 use Rattle.grid_file.specs.declared.place.KeyName.{KeyName}
 use Rattle.grid_file.specs.declared.place.KeyName.TheVariants as key
+use Rattle.grid_file.specs.declared.version.Version.{Version}
+use Rattle.grid_file.specs.declared.version.Version.TheVariants.{First, Second}
 use Rattle.grid_file.specs.Places.{spelled, place_of}
 use Rattle.grid_file.specs.Faults.{Check, check}
-use Rattle.grid_file.specs.Tree.{same_text, table_at, list_in}
+use Rattle.grid_file.specs.Tree.{same_text, number_in, table_at, list_in}
 
 -- what stands at a key of a table
 abbrev pub at_key : KeyName → Members → Option Data
 at_key key t = get_member (spelled key) t
+
+-- the version of a document: the second where its key `version` stands for the integer 2, else the first
+abbrev pub version_of : Members → Version
+version_of t = if is_some (number_in 2 2 (at_key key.Version t)) then Second else First
 
 -- a key that is refused where it has no value of its form
 abbrev pub key_check : {T : Type 0} → Part → ℕ → KeyName → Option T → Check
@@ -41,16 +47,25 @@ in_tables checks t =
 
 -- code 2: a key that is not listed for its table
 
--- the keys that a table may have
-abbrev pub listed_keys : Part → List KeyName
-listed_keys Document =
+-- the keys that each document may have
+abbrev pub common_keys : List KeyName
+common_keys =
     key.Dim ∷ key.Depth ∷ key.Base ∷ key.Solver ∷ key.Version ∷ key.A ∷ key.B ∷ key.Wind
     ∷ key.Criterion ∷ key.Fill ∷ key.Refine ∷ key.Edge ∷ key.EdgeValue ∷ key.Steps
     ∷ key.PrintEvery ∷ []
-listed_keys Criterion = key.Hi ∷ key.Lo ∷ key.Watch ∷ []
-listed_keys Fill = key.Level ∷ key.From ∷ key.To ∷ key.Value ∷ []
-listed_keys Refine = key.Level ∷ key.From ∷ key.To ∷ key.Until ∷ []
-listed_keys _ = []
+
+-- the keys that a document of a version may have: the second has one more
+abbrev pub document_keys : Version → List KeyName
+document_keys First = common_keys
+document_keys Second = common_keys ++ key.RecutEvery ∷ []
+
+-- the keys that a table may have; those of a document depend on its version
+abbrev pub listed_keys : Part → Members → List KeyName
+listed_keys Document t = document_keys (version_of t)
+listed_keys Criterion t = key.Hi ∷ key.Lo ∷ key.Watch ∷ []
+listed_keys Fill t = key.Level ∷ key.From ∷ key.To ∷ key.Value ∷ []
+listed_keys Refine t = key.Level ∷ key.From ∷ key.To ∷ key.Until ∷ []
+listed_keys _ t = []
 
 -- whether a text is one of these keys
 unfoldable pub is_among : List KeyName → List ℕ → Bool
@@ -64,7 +79,7 @@ has_only keys (member k d rest) = is_among keys k && has_only keys rest
 
 -- a table is refused as a whole where it has another key
 abbrev pub unlisted : Part → ℕ → Members → List Check
-unlisted part n t = check (place_of part n key.Whole) (not (has_only (listed_keys part) t)) ∷ []
+unlisted part n t = check (place_of part n key.Whole) (not (has_only (listed_keys part t) t)) ∷ []
 
 -- code 3: a needed key that is missing
 

@@ -4,7 +4,7 @@ use Rattle.std.specs.Fmt.{decimal}
 use Rattle.grid_file.specs.declared.place.Part.{Part}
 use Rattle.grid_file.specs.declared.place.Part.TheVariants.{Document, Criterion, FillList, Fill, RefineList, Refine}
 use Rattle.grid_file.specs.declared.place.KeyName.{KeyName}
-use Rattle.grid_file.specs.declared.place.KeyName.TheVariants.{Whole, Version, Dim, Depth, Base, Solver, A, B, Wind, Edge, EdgeValue, Steps, PrintEvery, Hi, Lo, Watch, Level, From, To, Value, Until, Criterion as CriterionKey, Fill as FillKey, Refine as RefineKey}
+use Rattle.grid_file.specs.declared.place.KeyName.TheVariants.{Whole, Version, Dim, Depth, Base, Solver, A, B, Wind, Edge, EdgeValue, Steps, PrintEvery, RecutEvery, Hi, Lo, Watch, Level, From, To, Value, Until, Criterion as CriterionKey, Fill as FillKey, Refine as RefineKey}
 use Rattle.grid_file.specs.declared.place.Place.{Place}
 
 -- a key as it is spelled in a file; the whole of a part is no key
@@ -22,6 +22,7 @@ spelled Edge = codes "edge"
 spelled EdgeValue = codes "edge_value"
 spelled Steps = codes "steps"
 spelled PrintEvery = codes "print_every"
+spelled RecutEvery = codes "recut_every"
 spelled Hi = codes "hi"
 spelled Lo = codes "lo"
 spelled Watch = codes "watch"

@@ -11,7 +11,7 @@ use Rattle.grid_file.specs.declared.plan.Plan.{Plan}
 use Rattle.grid_file.specs.Places.{document_key}
 use Rattle.grid_file.specs.Faults.{Check, Fault, Step, malformed, step, faults_of, least, judged}
 use Rattle.grid_file.specs.Tree.{tree_of, number_in}
-use Rattle.grid_file.specs.Values.{print_every_in}
+use Rattle.grid_file.specs.Values.{every_in}
 use Rattle.grid_file.specs.Keys.{at_key, key_check, listed, in_tables, unlisted, missing}
 use Rattle.grid_file.specs.Head.{dim_of, depth_of, base_of, solver_of, dim_checks, depth_checks, base_checks, solver_checks}
 use Rattle.grid_file.specs.Solvers.{rate_checks, criterion_checks, edge_checks, solver_with}
@@ -27,15 +27,23 @@ steps_of t = unwrap_or (steps_in t) 0
 
 -- how often one is printed, none where only the last is
 abbrev pub print_every_of : Members → Option ℕ
-print_every_of t = unwrap_or (print_every_in (at_key key.PrintEvery t)) None
+print_every_of t = unwrap_or (every_in (at_key key.PrintEvery t)) None
 
--- codes 13 and 14: each of these by itself
+-- how often the trees are cut anew, none where they never are
+abbrev pub recut_every_of : Members → Option ℕ
+recut_every_of t = unwrap_or (every_in (at_key key.RecutEvery t)) None
+
+-- code 13: how many steps are taken
 abbrev pub steps_checks : Members → List Check
 steps_checks t = key_check Document 0 key.Steps (steps_in t) ∷ []
 
 -- code 14: how often a step is printed
 abbrev pub print_checks : Members → List Check
-print_checks t = key_check Document 0 key.PrintEvery (print_every_in (at_key key.PrintEvery t)) ∷ []
+print_checks t = key_check Document 0 key.PrintEvery (every_in (at_key key.PrintEvery t)) ∷ []
+
+-- code 15: how often the trees are cut anew
+abbrev pub recut_checks : Members → List Check
+recut_checks t = key_check Document 0 key.RecutEvery (every_in (at_key key.RecutEvery t)) ∷ []
 
 -- what is checked for each code, in the order of its places
 abbrev pub steps : Dim → ℕ → SolverName → Members → List Step
@@ -53,6 +61,7 @@ steps dim depth solver t =
     ∷ step 12 (edge_checks solver t)
     ∷ step 13 (steps_checks t)
     ∷ step 14 (print_checks t)
+    ∷ step 15 (recut_checks t)
     ∷ []
 
 -- every fault of a document
@@ -69,6 +78,7 @@ plan_from dim depth solver t =
       solver = solver_with dim depth solver t;
       steps = steps_of t;
       print_every = print_every_of t;
+      recut_every = recut_every_of t;
     }
 
 -- the plan of a document: that by its own dimension, depth and solver

@@ -45,10 +45,10 @@ wind_of dim t = unwrap_or (wind_in dim (at_key key.Wind t)) (pos 0 ∷ pos 0 ∷
 abbrev pub rates_of : dims.Dim → Members → Rates
 rates_of dim t = record { a = pos (a_of t); b = pos (b_of t); wind = wind_of dim t }
 
--- each of them is checked behind the version
+-- each of them is checked behind the version, which is 1 or 2, and 1 where it is absent
 abbrev pub rate_checks : dims.Dim → Members → List Check
 rate_checks dim t =
-    key_check Document 0 key.Version (number_or 1 1 1 (at_key key.Version t))
+    key_check Document 0 key.Version (number_or 1 1 2 (at_key key.Version t))
     ∷ key_check Document 0 key.A (a_in t)
     ∷ key_check Document 0 key.B (b_in t)
     ∷ key_check Document 0 key.Wind (wind_in dim (at_key key.Wind t))

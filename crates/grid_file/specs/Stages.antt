@@ -17,7 +17,7 @@ use Rattle.grid_file.specs.Keys.{at_key, unlisted, missing, in_tables}
 use Rattle.grid_file.specs.Head.{dim_of, depth_of, base_of, solver_of, dim_checks, depth_checks, base_checks, solver_checks}
 use Rattle.grid_file.specs.Solvers.{rate_checks, criterion_checks, edge_checks, edge_of}
 use Rattle.grid_file.specs.Boxes.{list_checks, fill_checks, zone_checks}
-use Rattle.grid_file.specs.Plan.{steps_checks, print_checks, steps_of, print_every_of}
+use Rattle.grid_file.specs.Plan.{steps_checks, print_checks, recut_checks, steps_of, print_every_of, recut_every_of}
 
 -- the code of a pass
 abbrev pub code_of : Pass → ℕ
@@ -44,11 +44,11 @@ head_of t = record {
   solver = solver_of t;
 }
 
--- the first of codes 12 to 14
+-- the first of codes 12 to 15
 abbrev pub tail_fault : SolverName → Members → Option Malformed
 tail_fault solver t =
     first_in (step 12 (edge_checks solver t) ∷ step 13 (steps_checks t)
-    ∷ step 14 (print_checks t) ∷ [])
+    ∷ step 14 (print_checks t) ∷ step 15 (recut_checks t) ∷ [])
 
 -- what a file says last
 abbrev pub tail_of : SolverName → Members → Tail
@@ -56,9 +56,10 @@ tail_of solver t = record {
   edge = edge_of solver t;
   steps = steps_of t;
   print_every = print_every_of t;
+  recut_every = recut_every_of t;
 }
 
--- the first of codes 8 to 14
+-- the first of codes 8 to 15
 abbrev pub body_fault : Dim → ℕ → SolverName → Members → Option Malformed
 body_fault dim depth solver t =
     option_or (first 8 (rate_checks dim t))

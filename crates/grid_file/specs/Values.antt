@@ -159,7 +159,7 @@ edge_in solver true d = option_map Fixed (state_in solver d)
 edge_in solver false None = Some Copy
 edge_in solver false (Some d) = None
 
--- `print_every`: absent, or 1 to 10,000
-abbrev pub print_every_in : Option Data → Option (Option ℕ)
-print_every_in None = Some None
-print_every_in (Some d) = option_map Some (number_in 1 MOST_STEPS (Some d))
+-- `print_every` and `recut_every`: absent, or 1 to 10,000
+abbrev pub every_in : Option Data → Option (Option ℕ)
+every_in None = Some None
+every_in (Some d) = option_map Some (number_in 1 MOST_STEPS (Some d))

@@ -18,7 +18,7 @@ use crate::place::{KeyName, Part};
 use crate::plan::Plan;
 use crate::solver::{Rates, SolverName, named};
 use crate::tree::{number, number_or, table};
-use crate::values::{edge, fixed, print_every, wind};
+use crate::values::{edge, every, fixed, wind};
 use peano_keys::Dim;
 use solver_api::Criterion;
 use spacetree::{Fill, Shape, Zone};
@@ -26,12 +26,13 @@ use std::alloc::Global;
 use toml::{Table, Value};
 use volume_solver::EdgeRule;
 
-/// What a file says last: the rule at the domain's edge, and the steps.
+/// What a file says last: the rule at the domain's edge, the steps, and how often one is printed and the trees are cut anew.
 #[derive(Clone, Copy)]
 pub struct Tail {
     pub edge: EdgeRule,
     pub steps: u32,
     pub print_every: Option<u32>,
+    pub recut_every: Option<u32>,
 }
 
 // The numbers of the solver.
@@ -42,7 +43,7 @@ fn read_rates(dim: Dim, document: &Table) -> Result<Rates, PlanFault>
     ensures b { IfOk result (λ r. IsDivisor r.b) }
     ensures wind { IfOk result (λ r. IsWind r.wind) }
 {
-    number_or(1, 1, 1, at(document, KeyName::Version)).ok_or(refused(
+    number_or(1, 1, 2, at(document, KeyName::Version)).ok_or(refused(
         8,
         Part::Document,
         0,
@@ -174,16 +175,23 @@ fn read_tail(solver: SolverName, document: &Table) -> Result<Tail, PlanFault>
         0,
         KeyName::Steps,
     ))? as u32;
-    let print_every = print_every(at(document, KeyName::PrintEvery)).ok_or(refused(
+    let print_every = every(at(document, KeyName::PrintEvery)).ok_or(refused(
         14,
         Part::Document,
         0,
         KeyName::PrintEvery,
     ))?;
+    let recut_every = every(at(document, KeyName::RecutEvery)).ok_or(refused(
+        15,
+        Part::Document,
+        0,
+        KeyName::RecutEvery,
+    ))?;
     Ok(Tail {
         edge,
         steps,
         print_every,
+        recut_every,
     })
 }
 
@@ -208,6 +216,7 @@ pub fn read_body(alloc: Global, head: Head, document: &Table) -> Result<Plan, Pl
         edge,
         steps,
         print_every,
+        recut_every,
     } = read_tail(solver, document)?;
     Ok(Plan {
         shape: Shape {
@@ -220,5 +229,6 @@ pub fn read_body(alloc: Global, head: Head, document: &Table) -> Result<Plan, Pl
         solver: named(solver, dim, rates, edge, watch),
         steps,
         print_every,
+        recut_every,
     })
 }

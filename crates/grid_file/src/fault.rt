@@ -7,7 +7,7 @@ use crate::place::{KeyName, Part, Place};
 use std::alloc::{AllocError, AllocFailed};
 use thiserror::Error;
 
-/// A refusal: its code, 1 to 14, and its place.
+/// A refusal: its code, 1 to 15, and its place.
 #[derive(Clone, Copy, Debug, PartialEq, Eq)]
 pub struct Malformed {
     pub code: u8,

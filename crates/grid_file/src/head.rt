@@ -1,6 +1,7 @@
 //! What a file says first, on which the rest depends: dimension, depth, base and solver.
 ghost use Rattle.std.specs.Prelude.{◌≡◌, ◌≤◌, IfOk, not};
 ghost use Rattle.toml.specs.View.{table_view};
+ghost use Rattle.grid_file.specs.declared.limits.TheConstants.{DEEPEST};
 ghost use Rattle.grid_file.specs.Faults.{Gives, first};
 ghost use Rattle.grid_file.specs.Values.{takes_a, takes_wind};
 ghost use Rattle.grid_file.specs.Head.{solver_of, solver_checks};
@@ -8,11 +9,11 @@ ghost use Rattle.grid_file.specs.Stages.{head_fault, head_of};
 
 use crate::fault::{PlanFault, refused};
 use crate::keys::at;
-use crate::limits::DEEPEST;
 use crate::place::{KeyName, Part};
 use crate::solver::SolverName;
 use crate::tree::number;
 use crate::values::{dim, solver};
+use crate::version::{deepest_of, version_of};
 use peano_keys::Dim;
 use toml::Table;
 
@@ -63,7 +64,8 @@ pub fn read_head(document: &Table) -> Result<Head, PlanFault>
     ensures depth { IfOk result (λ h. h.depth ≤ DEEPEST) }
 {
     let dim = dim(at(document, KeyName::Dim)).ok_or(refused(4, Part::Document, 0, KeyName::Dim))?;
-    let depth = number(at(document, KeyName::Depth), 0, DEEPEST).ok_or(refused(
+    let deepest = deepest_of(version_of(document));
+    let depth = number(at(document, KeyName::Depth), 0, deepest).ok_or(refused(
         5,
         Part::Document,
         0,

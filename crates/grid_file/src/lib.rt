@@ -17,6 +17,7 @@ mod tests;
 mod text;
 mod tree;
 mod values;
+mod version;
 
 pub use fault::{Malformed, PlanFault};
 pub use place::{KeyName, Part, Place};

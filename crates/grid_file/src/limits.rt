@@ -1,7 +1,10 @@
 //! The ranges of a file's numbers.
 
 /// The deepest level that a file may ask for.
-pub const DEEPEST: u64 = 8;
+pub const DEEPEST: u64 = 12;
+
+/// The deepest level of a file of the first version.
+pub const DEEPEST_OF_FIRST: u64 = 8;
 
 /// The most steps.
 pub const MOST_STEPS: u64 = 10_000;

@@ -6,7 +6,7 @@ use spacetree::{Fill, Listed, Shape};
 use volume_solver::AnySolver;
 
 /// What a file asks for: the opening grid, the boxes of the opening field, the solver, how many steps are taken,
-/// and which of them are printed besides the last.
+/// which of them are printed besides the last, and after which of them the trees are cut anew.
 #[derive(Drop)]
 pub struct Plan {
     pub shape: Shape,
@@ -14,6 +14,7 @@ pub struct Plan {
     pub solver: AnySolver,
     pub steps: u32,
     pub print_every: Option<u32>,
+    pub recut_every: Option<u32>,
 }
 
 /// Whether the field after a step is printed: the last step is, and up to it each multiple of `print_every`.

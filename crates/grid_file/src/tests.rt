@@ -20,6 +20,9 @@ const INFLOW: &str =
 const WAVE: &str =
     "dim = 3\ndepth = 1\nbase = 1\nsolver = \"wave\"\na = 1\nb = 90\nsteps = 1\n[[fill]]\nlevel = 1\nfrom = [1, 0, 2]\nto = [2, 1, 3]\nvalue = [600, -5]\n";
 
+const DEEP: &str =
+    "version = 2\ndim = 2\ndepth = 12\nbase = 0\nsolver = \"diffuse\"\na = 0\nb = 1\nsteps = 9\nrecut_every = 4\n[[refine]]\nlevel = 12\nfrom = [265720, 265720]\nto = [265721, 265721]\nuntil = 12\n";
+
 // The pulse with one piece of its text changed.
 fn changed(alloc: Global, old: &str, new: &str) -> Result<String, AllocError> {
     let mut text = String::new(alloc);
@@ -102,7 +105,9 @@ fn keys_added_to_the_document(rt: HostRuntime) -> Result<(), Fail> {
         ("size = 3\n", "2 at document"),
         ("wind = [1, 0]\n", "7 at wind"),
         ("wind = 5\n", "7 at wind"),
-        ("version = 2\n", "8 at version"),
+        ("version = 0\n", "8 at version"),
+        ("version = 3\n", "8 at version"),
+        ("version = 2.0\n", "8 at version"),
         ("criterion = 5\n", "9 at criterion"),
         ("[[criterion]]\nhi = 5\nlo = 1\n", "9 at criterion"),
         ("[criterion]\nhi = 5\n", "3 at criterion lo"),
@@ -122,6 +127,44 @@ fn keys_added_to_the_document(rt: HostRuntime) -> Result<(), Fail> {
         let more = format!(in alloc; "steps = 1\n{lines}")?;
         expect_refused(&rt, alloc, &[("steps = 1\n", more.as_str(), want)])?;
     }
+    Ok(())
+}
+
+#[test]
+fn refusals_by_version(rt: HostRuntime) -> Result<(), Fail> {
+    for (depth, lines, want) in [
+        (13, "version = 2\n", "5 at depth"),
+        (9, "version = 1\n", "5 at depth"),
+        (9, "version = 3\n", "5 at depth"),
+        (1, "recut_every = 1\n", "2 at document"),
+        (1, "version = 1\nrecut_every = 1\n", "2 at document"),
+        (1, "version = 3\nrecut_every = 1\n", "2 at document"),
+        (1, "version = 2\nrecut_every = 0\n", "15 at recut_every"),
+        (1, "version = 2\nrecut_every = 10001\n", "15 at recut_every"),
+        (1, "version = 2\nrecut_every = [1]\n", "15 at recut_every"),
+        (
+            1,
+            "version = 2\nrecut_every = 0\nprint_every = 0\n",
+            "14 at print_every",
+        ),
+        (
+            12,
+            "version = 2\nrefine = [{ level = 12, from = [0, 0], to = [531441, 1], until = 13 }]\n",
+            "11 at refine 0 until",
+        ),
+        (
+            12,
+            "version = 2\nrefine = [{ level = 12, from = [0, 0], to = [531442, 1], until = 12 }]\n",
+            "11 at refine 0 to",
+        ),
+    ] {
+        let alloc = rt.alloc();
+        let more = format!(in alloc; "depth = {depth}\n{lines}")?;
+        expect_refused(&rt, alloc, &[("depth = 1\n", more.as_str(), want)])?;
+    }
+    let base = "version = 2\ndepth = 12\nbase = 13\n";
+    let rows = [("depth = 1\nbase = 1\n", base, "6 at base")];
+    expect_refused(&rt, rt.alloc(), &rows)?;
     Ok(())
 }
 
@@ -166,6 +209,16 @@ fn other_spellings_and_limits_are_accepted(rt: HostRuntime) -> Result<(), Fail> 
         ("steps = 1\n", "steps = 10000\n"),
         ("steps = 1\n", "steps = 1\nprint_every = 10000\n"),
         ("steps = 1\n", "steps = 0\nversion = 1\n"),
+        ("steps = 1\n", "steps = 0\nversion = 2\n"),
+        (
+            "steps = 1\n",
+            "steps = 1\nrecut_every = 10000\nversion = 2\n",
+        ),
+        ("depth = 1\nbase = 1\n", "depth = 8\nbase = 8\n"),
+        (
+            "depth = 1\nbase = 1\n",
+            "version = 2\ndepth = 12\nbase = 12\n",
+        ),
         (
             "[[fill]]\nlevel = 1\nfrom = [1, 1]\nto = [2, 2]\nvalue = [100]\n",
             "fill = []\n",
@@ -201,6 +254,39 @@ fn a_pulse_is_read(rt: HostRuntime) -> Result<(), Fail> {
     assert!(rt; matches!(plan.solver, AnySolver::Diffuse(_)) && !plan.solver.adapts());
     assert_eq!(rt; plan.steps, 1);
     assert_eq!(rt; plan.print_every, None);
+    assert_eq!(rt; plan.recut_every, None);
+    Ok(())
+}
+
+#[test]
+fn a_pulse_of_the_second_version_is_read_alike(rt: HostRuntime) -> Result<(), Fail> {
+    let alloc = rt.alloc();
+    let first = read_plan(alloc, PULSE.as_bytes())?;
+    let text = changed(alloc, "dim = 2\n", "version = 2\ndim = 2\n")?;
+    let plan = read_plan(alloc, text.as_bytes())?;
+    assert!(rt; plan.shape.dim == Dim::Two && plan.shape.depth == 1 && plan.shape.base == 1);
+    assert_eq!(rt; plan.shape.zones.as_slice().len(), 0);
+    assert!(rt; plan.fills.as_slice() == first.fills.as_slice());
+    assert!(rt; matches!(plan.solver, AnySolver::Diffuse(_)) && !plan.solver.adapts());
+    assert_eq!(rt; plan.steps, 1);
+    assert_eq!(rt; plan.print_every, None);
+    assert_eq!(rt; plan.recut_every, None);
+    Ok(())
+}
+
+#[test]
+fn a_deep_plan_of_the_second_version_is_read(rt: HostRuntime) -> Result<(), Fail> {
+    let plan = read_plan(rt.alloc(), DEEP.as_bytes())?;
+    let zone = Zone {
+        level: 12,
+        from: [265_720, 265_720, 0],
+        to: [265_721, 265_721, 0],
+        until: 12,
+    };
+    assert_eq!(rt; plan.shape.depth, 12);
+    assert!(rt; plan.shape.zones.as_slice() == [zone].as_slice());
+    assert_eq!(rt; plan.print_every, None);
+    assert_eq!(rt; plan.recut_every, Some(4));
     Ok(())
 }
 
@@ -285,6 +371,7 @@ fn places_have_texts(rt: HostRuntime) {
         (Part::Document, 0, KeyName::Whole, "document"),
         (Part::Document, 0, KeyName::EdgeValue, "edge_value"),
         (Part::Document, 0, KeyName::PrintEvery, "print_every"),
+        (Part::Document, 0, KeyName::RecutEvery, "recut_every"),
         (Part::Criterion, 0, KeyName::Whole, "criterion"),
         (Part::Criterion, 0, KeyName::Hi, "criterion hi"),
         (Part::FillList, 0, KeyName::Whole, "fill"),

@@ -4,7 +4,7 @@ ghost use Rattle.peano_keys.specs.State.{count_of};
 ghost use Rattle.volume_solver.specs.Ranges.{IsWind, EdgeHas};
 ghost use Rattle.toml.specs.View.{view, items_view};
 ghost use Rattle.grid_file.specs.Tree.{seen};
-ghost use Rattle.grid_file.specs.Values.{parts_of, axes_seen, dimension_in, solver_named, solver_in, axes_in, speed_in, third_speed, speeds_in, wind_in, corner_within, from_in, to_in, values_in, state_in, fixed_named, fixed_in, edge_in, print_every_in};
+ghost use Rattle.grid_file.specs.Values.{parts_of, axes_seen, dimension_in, solver_named, solver_in, axes_in, speed_in, third_speed, speeds_in, wind_in, corner_within, from_in, to_in, values_in, state_in, fixed_named, fixed_in, edge_in, every_in};
 
 use crate::limits::{MOST_RATE, MOST_STEPS};
 use crate::solver::SolverName;
@@ -209,9 +209,9 @@ pub fn edge(solver: SolverName, fixed: bool, found: Option<&Value>) -> Option<Ed
     }
 }
 
-/// How often a step is printed, none where the key is absent.
-pub fn print_every(found: Option<&Value>) -> Option<Option<u32>>
-    ensures { result ≡ print_every_in (seen found.entry) }
+/// A number of steps from 1 on, none where the key is absent.
+pub fn every(found: Option<&Value>) -> Option<Option<u32>>
+    ensures { result ≡ every_in (seen found.entry) }
 {
     if found.is_none() {
         return Some(None);

@@ -10,10 +10,11 @@ use Rattle.peano_keys.specs.Field.{States}
 use Rattle.volume_solver.specs.Any.{updated_by, marked_by}
 use Rattle.spacetree.specs.Evaluation.{Evaluates, IsServedStep}
 use Rattle.spacetree.proofs.Unique.{Both, one_end}
-use Rattle.curve_cuts.specs.Keys.{CutPoints, cuts_of}
+use Rattle.curve_cuts.specs.Keys.{cuts_of}
 use Rattle.grid_file.specs.declared.plan.Plan.{Plan}
 use Rattle.peano_run.specs.declared.asked.Request.{Request}
-use Rattle.peano_run.specs.Report.{Block, BlockOf, GoesOn, IsAdded, IsReportOf, Moment, OpensRun, Reaches, added_lines, lines_in, texts_in}
+use Rattle.peano_run.specs.Report.{AreKeysAt, Block, BlockOf, GoesOn, IsAdded, IsReportOf, Moment, OpensRun, Reaches, added_lines, lines_in, texts_in}
+use Rattle.peano_run.proofs.CutKeys.{keys_first, first_shares, keys_next, keys_back}
 
 no_block : Block
 no_block = record { text = []; lines = 0 }
@@ -35,25 +36,28 @@ module _ (r : Request) (plan : Plan) where
   pub record ToldBy (n : ℕ) (m : Moment) : Type 0 where
     pub grid : Spacetree
     pub field : States
-    pub opens : OpensRun r plan m.keys grid field
+    pub opens : OpensRun plan grid field
     pub led : Evaluates (updated_by plan.solver) (marked_by plan.solver) grid field n m.grid m.field
+    pub cut : AreKeysAt r.trees plan grid field n m.keys
     pub blocks : List Block
     pub count : length blocks ≡ n + 1
-    pub each : (s : ℕ) (d : Block) → s ≤ n → BlockOf r plan m.keys grid field s (slice_index_or blocks s d)
+    pub each : (s : ℕ) (d : Block) → s ≤ n → BlockOf r plan grid field s (slice_index_or blocks s d)
     pub text : m.text ≡ texts_in blocks
     pub lines : m.lines ≡ lines_in blocks
 
   told_by : (n : ℕ) (m : Moment) → Reaches r plan n m → ToldBy n m
   told_by zero m h =
       let first : Block = record { text = m.text; lines = m.lines } in
+      let cut = keys_first r.trees plan m.grid m.field m.keys h.keys in
       record {
         grid = m.grid;
         field = m.field;
-        opens = record { grid = h.grid; room = h.room; field = h.field; cut = h.keys };
+        opens = record { grid = h.grid; room = h.room; field = h.field };
         led = (refl, refl);
+        cut = cut;
         blocks = first ∷ [];
         count = refl;
-        each = λ s d low. subst (λ i. BlockOf r plan m.keys m.grid m.field i (slice_index_or (first ∷ []) i d)) (let e : 0 ≡ s = omega (arith, low) in e) (record { grid = m.grid; field = m.field; led = (refl, refl); told = h.text; counted = h.lines });
+        each = λ s d low. subst (λ i. BlockOf r plan m.grid m.field i (slice_index_or (first ∷ []) i d)) (let e : 0 ≡ s = omega (arith, low) in e) (record { grid = m.grid; field = m.field; keys = m.keys; led = (refl, refl); cut = cut; told = h.text; counted = h.lines });
         text = sym (append-nil m.text);
         lines = omega arith;
       }
@@ -64,21 +68,22 @@ module _ (r : Request) (plan : Plan) where
       let last : Block = record { text = step.added; lines = added_lines r plan (suc n) m.field } in
       let count = rest.count in
       let led : Evaluates (updated_by plan.solver) (marked_by plan.solver) rest.grid rest.field (suc n) m.grid m.field = (before.grid, before.field, rest.led, step.taken) in
-      let at_keys : CutPoints → Block → ℕ → Type 0 = λ keys b s. BlockOf r plan keys rest.grid rest.field s b in
+      let cut = keys_next r.trees plan rest.grid rest.field n m.grid m.field led before.keys m.keys rest.cut step.keys in
       record {
         grid = rest.grid;
         field = rest.field;
-        opens = subst (λ (p : CutPoints). OpensRun r plan p rest.grid rest.field) (sym step.keys) rest.opens;
+        opens = rest.opens;
         led = led;
+        cut = cut;
         blocks = rest.blocks ++ last ∷ [];
         count = length-append rest.blocks (last ∷ []) ∙ omega (arith, count);
-        each = λ s d low. subst (λ (p : CutPoints). at_keys p (slice_index_or (rest.blocks ++ last ∷ []) s d) s) (sym step.keys) (⊎_elim
-            (λ old. subst (λ b. at_keys before.keys b s) (sym (get_or_append_left rest.blocks (last ∷ []) d s (omega (arith, old, count)))) (rest.each s d (omega (arith, old))))
+        each = λ s d low. ⊎_elim
+            (λ old. subst (λ b. BlockOf r plan rest.grid rest.field s b) (sym (get_or_append_left rest.blocks (last ∷ []) d s (omega (arith, old, count)))) (rest.each s d (omega (arith, old))))
             (λ new.
             let e : s ≡ suc n = omega (arith, low, new) in
             let is : slice_index_or (rest.blocks ++ last ∷ []) s d ≡ last = ap (λ i. slice_index_or (rest.blocks ++ last ∷ []) i d) (let f : s ≡ length rest.blocks = omega (arith, e, count) in f) ∙ get_or-append_seam rest.blocks last [] d in
-            subst (λ b. at_keys before.keys b s) (sym is) (subst (at_keys before.keys last) (sym e) (record { grid = m.grid; field = m.field; led = led; told = step.shown; counted = refl })))
-            (cases_lt s (suc n)));
+            subst (λ b. BlockOf r plan rest.grid rest.field s b) (sym is) (subst (λ i. BlockOf r plan rest.grid rest.field i last) (sym e) (record { grid = m.grid; field = m.field; keys = m.keys; led = led; cut = cut; told = step.shown; counted = refl })))
+            (cases_lt s (suc n));
         text = step.text ∙ ap (λ t. t ++ step.added) rest.text ∙ sym (texts_more rest.blocks last);
         lines = step.lines ∙ ap (λ k. k + added_lines r plan (suc n) m.field) rest.lines ∙ sym (lines_more rest.blocks last);
       }
@@ -90,7 +95,6 @@ module _ (r : Request) (plan : Plan) where
       let lines = all.lines in
       let room = h.room in
       record {
-        keys = m.keys;
         grid = all.grid;
         field = all.field;
         opens = all.opens;
@@ -106,7 +110,7 @@ module _ (r : Request) (plan : Plan) where
     pub record ComesBy (n : ℕ) : Type 0 where
       pub moment : Moment
       pub reached : Reaches r plan n moment
-      pub keys : moment.keys ≡ h.keys
+      pub cut : AreKeysAt r.trees plan h.grid h.field n moment.keys
       pub led : Evaluates (updated_by plan.solver) (marked_by plan.solver) h.grid h.field n moment.grid moment.field
       pub text_is : moment.text ≡ texts_in (take (n + 1) h.blocks)
       pub lines : moment.lines ≡ lines_in (take (n + 1) h.blocks)
@@ -126,12 +130,12 @@ module _ (r : Request) (plan : Plan) where
     comes_by : (n : ℕ) → n ≤ plan.steps → ComesBy n
     comes_by zero low =
         let b = h.each 0 no_block low in
-        let told : IsAdded r plan (cuts_of h.keys) 0 h.grid h.field (block_at 0).text =
-        subst (λ (f : States). IsAdded r plan (cuts_of h.keys) 0 h.grid f (block_at 0).text) b.led.1 (subst (λ (g : Spacetree). IsAdded r plan (cuts_of h.keys) 0 g b.field (block_at 0).text) b.led.0 b.told) in
+        let told : IsAdded r plan (cuts_of b.keys) 0 h.grid h.field (block_at 0).text =
+        subst (λ (f : States). IsAdded r plan (cuts_of b.keys) 0 h.grid f (block_at 0).text) b.led.1 (subst (λ (g : Spacetree). IsAdded r plan (cuts_of b.keys) 0 g b.field (block_at 0).text) b.led.0 b.told) in
         record {
-          moment = record { keys = h.keys; grid = h.grid; field = h.field; text = (block_at 0).text; lines = (block_at 0).lines };
-          reached = record { grid = h.opens.grid; room = h.opens.room; field = h.opens.field; keys = h.opens.cut; text = told; lines = b.counted ∙ ap (added_lines r plan 0) b.led.1 };
-          keys = refl;
+          moment = record { keys = b.keys; grid = h.grid; field = h.field; text = (block_at 0).text; lines = (block_at 0).lines };
+          reached = record { grid = h.opens.grid; room = h.opens.room; field = h.opens.field; keys = first_shares r.trees plan h.grid h.field b.keys b.cut; text = told; lines = b.counted ∙ ap (added_lines r plan 0) b.led.1 };
+          cut = b.cut;
           led = (refl, refl);
           text_is = sym (texts_at 0 low);
           lines = (let all = lines_at 0 low in omega (arith, all));
@@ -142,28 +146,29 @@ module _ (r : Request) (plan : Plan) where
         let last : Block = block_at (suc n) in
         let same : ◌≡◌ {A = Both} (b.led.0, b.led.1) (rest.moment.grid, rest.moment.field) = one_end (updated_by plan.solver) (marked_by plan.solver) h.grid h.field n b.led.0 b.led.1 rest.moment.grid rest.moment.field b.led.2 rest.led in
         let served = subst (λ (p : Both). IsServedStep (updated_by plan.solver) (marked_by plan.solver) p.0 p.1 b.grid b.field) same b.led.3 in
+        let led : Evaluates (updated_by plan.solver) (marked_by plan.solver) h.grid h.field (suc n) b.grid b.field = (rest.moment.grid, rest.moment.field, rest.led, served) in
         let few = lines_first (n + 1) h.blocks in
         let lines = rest.lines in
         let texts_before = rest.text_is ∙ ap (λ i. texts_in (take i h.blocks)) (add-one n) in
         let lines_before = rest.lines ∙ ap (λ i. lines_in (take i h.blocks)) (add-one n) in
         let room = h.room in
         record {
-          moment = record { keys = rest.moment.keys; grid = b.grid; field = b.field; text = rest.moment.text ++ last.text; lines = rest.moment.lines + last.lines };
+          moment = record { keys = b.keys; grid = b.grid; field = b.field; text = rest.moment.text ++ last.text; lines = rest.moment.lines + last.lines };
           reached = (
             rest.moment,
             rest.reached,
             record {
               room = omega (arith, few, lines, room);
-              keys = refl;
+              keys = keys_back r.trees plan h.grid h.field n b.grid b.field led rest.moment.keys b.keys rest.cut b.cut;
               taken = served;
               added = last.text;
-              shown = subst (λ (p : CutPoints). IsAdded r plan (cuts_of p) (suc n) b.grid b.field last.text) (sym rest.keys) b.told;
+              shown = b.told;
               text = refl;
               lines = ap (λ k. rest.moment.lines + k) b.counted;
             },
           );
-          keys = rest.keys;
-          led = (rest.moment.grid, rest.moment.field, rest.led, served);
+          cut = b.cut;
+          led = led;
           text_is = ap (λ t. t ++ last.text) texts_before ∙ sym (texts_at (suc n) low);
           lines = (let all = lines_at (suc n) low in omega (arith, all, lines_before));
         }

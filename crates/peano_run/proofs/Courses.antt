@@ -8,7 +8,9 @@ use Rattle.spacetree.specs.Opening.{Opens, OpensField}
 use Rattle.spacetree.specs.Counts.{cells_of}
 use Rattle.spacetree.specs.Evaluation.{IsServedStep}
 use Rattle.curve_cuts.specs.Keys.{CutPoints}
-use Rattle.step_driver.specs.Starts.{AreFirstKeys}
+use Rattle.step_driver.specs.Notes.{recuts_in}
+use Rattle.step_driver.specs.Starts.{AreEqualKeys}
+use Rattle.step_driver.specs.Advances.{AreKeysAfter}
 use Rattle.step_driver.specs.Worlds.{Seen}
 use Rattle.grid_file.specs.declared.plan.Plan.{Plan}
 use Rattle.grid_file.specs.Plan.{plan_of}
@@ -29,8 +31,8 @@ abbrev pub first_moment : CutPoints → Spacetree → States → Moment
 first_moment keys g f = record { keys = keys; grid = g; field = f; text = []; lines = 0 }
 
 -- and that after a step of which nothing is shown yet
-abbrev pub after_step : Moment → Spacetree → States → Moment
-after_step b g f = record { keys = b.keys; grid = g; field = f; text = b.text; lines = b.lines }
+abbrev pub after_step : Moment → CutPoints → Spacetree → States → Moment
+after_step b keys g f = record { keys = keys; grid = g; field = f; text = b.text; lines = b.lines }
 
 -- for want of memory a run stops without a world
 pub wants_memory : (r : Request) (plan : Plan) (refused : Refused) → refused ≡ record { answer = answer.NoMemory; world = None } → IsStopped r plan refused
@@ -38,7 +40,7 @@ wants_memory r plan refused e = subst (IsStopped r plan) (sym e) (record { cause
 
 module _ (r : Request) (plan : Plan) where
   -- a course that starts
-  pub opening_course : (keys : CutPoints) (g : Spacetree) (f : States) (after : Course) → Opens plan.shape g → cells_of g ≤ 200000 → OpensField g plan.fills (parts_in plan.solver) f → AreFirstKeys plan.shape.depth g r.trees keys →
+  pub opening_course : (keys : CutPoints) (g : Spacetree) (f : States) (after : Course) → Opens plan.shape g → cells_of g ≤ 200000 → OpensField g plan.fills (parts_in plan.solver) f → AreEqualKeys plan.shape.depth g r.trees keys →
       ShowsStep r plan 0 (first_moment keys g f) after → IsCourse r plan 0 after
   opening_course keys g f after grid room field first h = record {
     moment = with_text r plan 0 (first_moment keys g f) h.added;
@@ -59,20 +61,20 @@ module _ (r : Request) (plan : Plan) where
         left = record { step = 0; grid = g; field = f; many = over; at = at; noted = noted };
       })
 
-  module _ (n : ℕ) (b : Moment) (g : Spacetree) (f : States) (on : GoesOn r plan n b) (taken : IsServedStep (updated_by plan.solver) (marked_by plan.solver) b.grid b.field g f) where
+  module _ (n : ℕ) (b : Moment) (keys : CutPoints) (g : Spacetree) (f : States) (on : GoesOn r plan n b) (taken : IsServedStep (updated_by plan.solver) (marked_by plan.solver) b.grid b.field g f) (cut : AreKeysAfter (recuts_in plan.recut_every (suc n)) g b.keys keys) where
     -- a course that goes on
-    pub next_course : (after : Course) → ShowsStep r plan (suc n) (after_step b g f) after → IsCourse r plan (suc n) after
+    pub next_course : (after : Course) → ShowsStep r plan (suc n) (after_step b keys g f) after → IsCourse r plan (suc n) after
     next_course after h = record {
-      moment = with_text r plan (suc n) (after_step b g f) h.added;
+      moment = with_text r plan (suc n) (after_step b keys g f) h.added;
       shown = h.shown;
       reached = record {
-        reached = (b, on.reached, record { room = on.room; keys = refl; taken = taken; added = h.added; shown = h.told; text = refl; lines = refl });
+        reached = (b, on.reached, record { room = on.room; keys = cut; taken = taken; added = h.added; shown = h.told; text = refl; lines = refl });
         room = (let lines = h.shown.stands.lines in let low = h.room in omega (arith, lines, low));
       };
     }
 
     -- or is refused because of its lines
-    pub next_refused : (refused : Refused) → n < plan.steps → ShowFails r plan (suc n) (after_step b g f) refused → IsStopped r plan refused
+    pub next_refused : (refused : Refused) → n < plan.steps → ShowFails r plan (suc n) (after_step b keys g f) refused → IsStopped r plan refused
     next_refused refused more (no_memory e) = wants_memory r plan refused e
     next_refused refused more (too_many w e many at noted) = subst (IsStopped r plan) (sym e) (record {
       cause = (refl, in_step n b g f more on taken many);

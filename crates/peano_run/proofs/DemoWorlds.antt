@@ -1,5 +1,5 @@
 -- The world of a demonstration: how it begins, goes on and ends.
-use Rattle.std.proofs.Common.{◌≡◌, ℕ, suc, ◌+◌, ◌<◌, ◌==◌, ◌||◌, ◌&&◌, nat_le, Bool, true, false, None, List, ◌++◌, length, add-one, refl, sym, subst, ap, ⊎_elim, ◌∙◌, arith}
+use Rattle.std.proofs.Common.{◌≡◌, ℕ, suc, ◌+◌, ◌<◌, ◌==◌, ◌||◌, ◌&&◌, nat_le, Bool, true, false, Option, None, List, ◌++◌, length, add-one, refl, sym, subst, ap, ap₂, ⊎_elim, ◌∙◌, arith}
 use Rattle.std.proofs.lemmas.Bool.Decides.{eqb_tells}
 use Rattle.peano_keys.specs.declared.cell.CellKey.{CellKey}
 use Rattle.peano_keys.specs.Grid.{Spacetree, IsGrid}
@@ -13,9 +13,9 @@ use Rattle.curve_cuts.specs.Keys.{CutPoints, cuts_of}
 use Rattle.step_driver.specs.declared.showing.Shown.{Shown}
 use Rattle.vertex_stacks.specs.declared.kind.Kind.TheVariants.{Show}
 use Rattle.step_world.specs.Notes.{by_trees, note_over}
-use Rattle.step_driver.specs.Notes.{sizes_of, added_notes}
+use Rattle.step_driver.specs.Notes.{sizes_of, recuts_in, added_notes, recut_added}
 use Rattle.step_driver.specs.Showing.{IsShown}
-use Rattle.step_driver.specs.Advances.{Advanced, Stopped}
+use Rattle.step_driver.specs.Advances.{AreKeysAfter, Advanced, Stopped}
 use Rattle.step_driver.specs.Worlds.{Seen, IsAt}
 use Rattle.field_report.specs.Summary.{IsSummary}
 use Rattle.grid_file.specs.declared.plan.Plan.{Plan}
@@ -30,7 +30,7 @@ use Rattle.peano_run.proofs.Demonstrations.{has_row, summary_from, no_overflow, 
 
 -- a first world is led to step 0
 pub first_led : (trees : ℕ) (plan : Plan) (g : Spacetree) (w : Seen AnySolver) → IsFirst trees plan g w → IsLed trees plan 0 w
-first_led trees plan g w h = record { grid = g; field = h.field; at = h.at; solver = h.solver; noted = (h.begun, h.noted) }
+first_led trees plan g w h = record { grid = g; field = h.field; at = h.at; solver = h.solver; recut = h.recut; noted = h.noted }
 
 -- of a demonstration the last step alone is printed
 only_last : (n step : ℕ) → step < 20 → printed (demo n) step ≡ false
@@ -53,19 +53,23 @@ module _ (n : ℕ) (plan : Plan) (same : plan ≡ demo n) (trees step : ℕ) (w 
   own_world = subst (λ s. IsAt (parts_in s) w led.grid led.field w.step) (sym led.solver) (subst (λ k. IsAt (parts_in plan.solver) w led.grid led.field k) (sym led.at.step_is) led.at)
 
   -- a step leads it on
-  pub led_on : (v : Seen AnySolver) (a : Advanced (kernel_of w.solver) (adapting_in w.solver) led.grid led.field w v) → v.solver ≡ w.solver → v.keys ≡ w.keys → IsLed trees plan (step + 1) v
-  led_on v a solver keys = record {
-    grid = a.grid;
-    field = a.field;
-    at = subst (λ k. IsAt (parts_in plan.solver) v a.grid a.field (k + 1)) led.at.step_is (subst (λ s. IsAt (parts_in s) v a.grid a.field (w.step + 1)) led.solver a.at);
-    solver = solver ∙ led.solver;
-    noted = subst (λ k. HasNotesBefore trees plan v.keys k a.grid a.field v.notes) (sym (add-one step)) (subst (λ (p : CutPoints). HasNotesBefore trees plan p (suc step) a.grid a.field v.notes) (sym keys)
-        (notes_stepped trees plan w.keys step led.grid led.field w.notes (adapting_in w.solver) a.grid a.field v.notes (ap adapting_in led.solver) led_to
-        (subst (λ s. served_by s) led.solver a.served)
-        (a.noted ∙ ap (λ k. w.notes ++ added_notes (cuts_of w.keys) (adapting_in w.solver) k led.grid a.grid) (ap (λ k. k + 1) led.at.step_is ∙ add-one step))));
-  } where
-    served_by : AnySolver → Type 0
-    served_by s = IsServedStep (updated_by s) (marked_by s) led.grid led.field a.grid a.field
+  pub led_on : (v : Seen AnySolver) (a : Advanced (kernel_of w.solver) (adapting_in w.solver) led.grid led.field w v) → v.solver ≡ w.solver → v.recut ≡ w.recut → IsLed trees plan (step + 1) v
+  led_on v a solver recut =
+      let next : w.step + 1 ≡ suc step = ap (λ k. k + 1) led.at.step_is ∙ add-one step in
+      record {
+        grid = a.grid;
+        field = a.field;
+        at = subst (λ k. IsAt (parts_in plan.solver) v a.grid a.field (k + 1)) led.at.step_is (subst (λ s. IsAt (parts_in s) v a.grid a.field (w.step + 1)) led.solver a.at);
+        solver = solver ∙ led.solver;
+        recut = recut ∙ led.recut;
+        noted = subst (λ k. HasNotesBefore trees plan v.keys k a.grid a.field v.notes) (sym (add-one step))
+            (notes_stepped trees plan w.keys v.keys step led.grid led.field w.notes (adapting_in w.solver) a.grid a.field v.notes (ap adapting_in led.solver) led_to
+            (subst (λ s. served_by s) led.solver a.served)
+            (subst (λ k. AreKeysAfter (recuts_in plan.recut_every k) a.grid w.keys v.keys) next (subst (λ (every : Option ℕ). AreKeysAfter (recuts_in every (w.step + 1)) a.grid w.keys v.keys) led.recut a.keys))
+            (a.noted ∙ ap₂ (λ k every. w.notes ++ (added_notes (cuts_of w.keys) (adapting_in w.solver) k led.grid a.grid ++ recut_added every w.keys v.keys k a.grid)) next led.recut));
+      } where
+        served_by : AnySolver → Type 0
+        served_by s = IsServedStep (updated_by s) (marked_by s) led.grid led.field a.grid a.field
 
   -- and is never refused
   pub goes_on : (v : Seen AnySolver) (s : ℕ) (c : CellKey) → Stopped (kernel_of w.solver) (adapting_in w.solver) led.grid led.field w v (Faults.Overflow s c) → ⊥

@@ -18,10 +18,12 @@ use Rattle.spacetree.proofs.LeadsOn.{each_step_leads_on}
 use Rattle.spacetree.proofs.OpeningExists.{each_shape_opens, fills_open, opening_is_grid}
 use Rattle.spacetree.proofs.Told.{at_most}
 use Rattle.curve_cuts.specs.Cuts.{Cuts, IsCutGrid}
-use Rattle.curve_cuts.specs.Keys.{cuts_of}
+use Rattle.curve_cuts.specs.Keys.{CutPoints, cuts_of}
 use Rattle.field_report.specs.Traffic.{traffic_block}
 use Rattle.step_world.proofs.Worlds.{deep_grid, next_is_cut}
-use Rattle.step_driver.proofs.KeysExist.{first_keys_exist}
+use Rattle.step_driver.specs.Notes.{recuts_in}
+use Rattle.step_driver.specs.Advances.{AreKeysAfter}
+use Rattle.step_driver.proofs.KeysExist.{equal_keys_exist}
 use Rattle.step_driver.proofs.TrafficExists.{traffic_exists}
 use Rattle.grid_file.specs.declared.plan.Plan.{Plan}
 use Rattle.grid_file.specs.declared.fault.Malformed.{Malformed as Place}
@@ -35,6 +37,7 @@ use Rattle.peano_run.specs.declared.asked.Request.{Request}
 use Rattle.peano_run.specs.Asked.{IsTreeCount}
 use Rattle.peano_run.specs.Outcome.{EachFileHasAnOutcome, HasRefusal, HasReport}
 use Rattle.peano_run.specs.Report.{Moment, GoesOn, IsReportOf, IsAdded, IsAddedIf, IsTrafficText, at_start, in_step, added_lines, fields_text, longest_input, most_lines, shows_traffic}
+use Rattle.peano_run.proofs.CutKeys.{shares_before, shares_count}
 use Rattle.peano_run.proofs.Blocks.{report_of}
 use Rattle.peano_run.proofs.Fates.{Fate, too_large, too_long, overflows, crowded}
 
@@ -57,7 +60,8 @@ module _ (r : Request) (plan : Plan) where
       pub moment : Moment
       pub on : GoesOn r plan n moment
       pub fits : IsCutGrid (cuts_of moment.keys) moment.grid
-      pub deep : plan.shape.depth ≤ moment.keys.depth
+      pub depth : moment.keys.depth ≡ plan.shape.depth
+      pub count : (cuts_of moment.keys).trees ≡ r.trees
 
     -- or it has another fate
     abbrev pub HasFate : Type 0
@@ -76,7 +80,7 @@ module _ (r : Request) (plan : Plan) where
       begins_at : Comes 0 ⊎ HasFate
       begins_at =
           let f = fills_open g plan.fills (parts_in plan.solver) in
-          let keys = first_keys_exist plan.shape.depth g r.trees is.shape.depth grid trees.some trees.most in
+          let keys = equal_keys_exist plan.shape.depth g r.trees is.shape.depth grid trees.some trees.most in
           let text = added (cuts_of keys.0) 0 g f.0 keys.2 in
           let lines : ℕ = added_lines r plan 0 f.0 in
           elim (at_most lines most_lines) [
@@ -84,7 +88,8 @@ module _ (r : Request) (plan : Plan) where
               moment = record { keys = keys.0; grid = g; field = f.0; text = text.0; lines = lines };
               on = record { reached = record { grid = opens; room = room; field = f.1; keys = keys.1; text = text.1; lines = refl }; room = few };
               fits = keys.2;
-              deep = (let e = keys.1.2.depth in omega (arith, e));
+              depth = keys.1.2.depth;
+              count = shares_count plan.shape.depth g r.trees keys.0 keys.1;
             }
             | inr many ↦ inr (Limit Lines most_lines, too_long refl (at_start g f.0 opens room f.1 (omega (arith, many))))
           ]
@@ -101,19 +106,48 @@ module _ (r : Request) (plan : Plan) where
       abbrev m : Moment
       m = at.moment
 
+      -- the keys after a step to a grid, which is one for its trees
+      pub record HasKeys (g : Spacetree) : Type 0 where
+        pub keys : CutPoints
+        pub after : AreKeysAfter (recuts_in plan.recut_every (suc n)) g m.keys keys
+        pub fits : IsCutGrid (cuts_of keys) g
+        pub depth : keys.depth ≡ plan.shape.depth
+        pub count : (cuts_of keys).trees ≡ r.trees
+
+      has_keys : (g : Spacetree) → IsCutGrid (cuts_of m.keys) g → HasKeys g
+      has_keys g stays = of (recuts_in plan.recut_every (suc n)) refl where
+        of : (b : Bool) → recuts_in plan.recut_every (suc n) ≡ b → HasKeys g
+        of true e =
+            let new = equal_keys_exist plan.shape.depth g r.trees is.shape.depth (subst (λ l. IsGrid l g) at.depth stays.grid) trees.some trees.most in
+            record {
+              keys = new.0;
+              after = subst (λ b. AreKeysAfter b g m.keys new.0) (sym e) (shares_before plan.shape.depth g r.trees m.keys new.0 at.depth at.count new.1);
+              fits = new.2;
+              depth = new.1.2.depth;
+              count = shares_count plan.shape.depth g r.trees new.0 new.1;
+            }
+        of false e = record {
+          keys = m.keys;
+          after = subst (λ b. AreKeysAfter b g m.keys m.keys) (sym e) refl;
+          fits = stays;
+          depth = at.depth;
+          count = at.count;
+        }
+
       served : (g : Spacetree) (f : States) → IsServedStep (updated_by plan.solver) (marked_by plan.solver) m.grid m.field g f → Comes (suc n) ⊎ HasFate
       served g f taken =
           let refines : (c : CellKey) → marks_of (marked_by plan.solver) m.grid m.field c ≡ Refine → c.level < m.keys.depth =
-          λ c e. (let low = refined_in plan.solver (state_at m.field c) (sides_of m.grid m.field c) c.level e in let deepest = is.deepest in let deep = at.deep in omega (arith, low, deepest, deep)) in
-          let fits = next_is_cut (cuts_of m.keys) m.grid g (marks_of (marked_by plan.solver) m.grid m.field) at.fits taken.step.grid refines in
-          let text = added (cuts_of m.keys) (suc n) g f fits in
+          λ c e. (let low = refined_in plan.solver (state_at m.field c) (sides_of m.grid m.field c) c.level e in let deepest = is.deepest in let deep = at.depth in omega (arith, low, deepest, deep)) in
+          let new = has_keys g (next_is_cut (cuts_of m.keys) m.grid g (marks_of (marked_by plan.solver) m.grid m.field) at.fits taken.step.grid refines) in
+          let text = added (cuts_of new.keys) (suc n) g f new.fits in
           let lines : ℕ = m.lines + added_lines r plan (suc n) f in
           elim (at_most lines most_lines) [
             | inl few ↦ inl record {
-              moment = record { keys = m.keys; grid = g; field = f; text = m.text ++ text.0; lines = lines };
-              on = record { reached = (m, at.on.reached, record { room = at.on.room; keys = refl; taken = taken; added = text.0; shown = text.1; text = refl; lines = refl }); room = few };
-              fits = fits;
-              deep = at.deep;
+              moment = record { keys = new.keys; grid = g; field = f; text = m.text ++ text.0; lines = lines };
+              on = record { reached = (m, at.on.reached, record { room = at.on.room; keys = new.after; taken = taken; added = text.0; shown = text.1; text = refl; lines = refl }); room = few };
+              fits = new.fits;
+              depth = new.depth;
+              count = new.count;
             }
             | inr many ↦ inr (Limit Lines most_lines, too_long refl (in_step n m g f more at.on taken (omega (arith, many))))
           ]

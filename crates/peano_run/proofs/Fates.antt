@@ -19,12 +19,15 @@ use Rattle.curve_cuts.specs.Cuts.{Cuts}
 use Rattle.curve_cuts.specs.Keys.{CutPoints, cuts_of}
 use Rattle.field_report.specs.Traffic.{traffic_block}
 use Rattle.grid_file.specs.Plan.{printed}
-use Rattle.step_driver.specs.Starts.{AreFirstKeys}
+use Rattle.step_driver.specs.Starts.{AreEqualKeys}
 use Rattle.step_driver.proofs.Rests.{one_traffic}
 use Rattle.peano_run.specs.declared.asked.Request.{Request}
 use Rattle.peano_run.specs.Report.{Moment, Starts, IsNextMoment, Reaches, GoesOn, IsReportOf, HasManyLines, at_start, in_step, PlanOverflows, PlanCrowds, IsAdded, IsAddedIf, IsTrafficText, most_lines, shows_traffic, fields_text, added_lines}
 use Rattle.peano_run.proofs.Blocks.{last_moment}
+use Rattle.step_driver.specs.Notes.{recuts_in}
+use Rattle.step_driver.specs.Advances.{AreKeysAfter}
 use Rattle.peano_run.proofs.OneKeys.{one_keys}
+use Rattle.peano_run.proofs.CutKeys.{one_keys_after}
 
 -- how a plan that has no report ends
 pub data Fate (r : Request) (plan : Plan) (a : Answer) : Type 0 where
@@ -49,7 +52,7 @@ module _ (r : Request) (plan : Plan) where
   one_start m k h g =
       let grids : m.grid ≡ k.grid = one_opening plan.shape m.grid k.grid h.grid g.grid in
       let fields : m.field ≡ k.field = one_opening_field k.grid plan.fills (parts_in plan.solver) m.field k.field (subst (λ (t : Spacetree). OpensField t plan.fills (parts_in plan.solver) m.field) grids h.field) g.field in
-      let keys : m.keys ≡ k.keys = one_keys plan.shape.depth k.grid r.trees m.keys k.keys (subst (λ (t : Spacetree). AreFirstKeys plan.shape.depth t r.trees m.keys) grids h.keys) g.keys in
+      let keys : m.keys ≡ k.keys = one_keys plan.shape.depth k.grid r.trees m.keys k.keys (subst (λ (t : Spacetree). AreEqualKeys plan.shape.depth t r.trees m.keys) grids h.keys) g.keys in
       let text = subst (λ (p : CutPoints). IsAdded r plan (cuts_of p) 0 k.grid k.field m.text) keys (subst (λ (f : States). IsAdded r plan (cuts_of m.keys) 0 k.grid f m.text) fields (subst (λ (t : Spacetree). IsAdded r plan (cuts_of m.keys) 0 t m.field m.text) grids h.text)) in
       let texts : m.text ≡ k.text = one_added (cuts_of k.keys) 0 k.grid k.field m.text k.text text g.text in
       let lines : m.lines ≡ k.lines = h.lines ∙ ap (added_lines r plan 0) fields ∙ sym g.lines in
@@ -59,10 +62,11 @@ module _ (r : Request) (plan : Plan) where
   one_next step before m k h g =
       let both : ◌≡◌ {A = Both} (m.grid, m.field) (k.grid, k.field) = one_step (updated_by plan.solver) (marked_by plan.solver) before.grid before.field m.grid m.field k.grid k.field h.taken.step g.taken.step in
       let fields : m.field ≡ k.field = ap (λ (p : Both). p.1) both in
-      let shown = subst (λ (p : Both). IsAdded r plan (cuts_of before.keys) step p.0 p.1 h.added) both h.shown in
-      let texts : m.text ≡ k.text = h.text ∙ ap (λ t. before.text ++ t) (one_added (cuts_of before.keys) step k.grid k.field h.added g.added shown g.shown) ∙ sym g.text in
+      let recuts : Bool = recuts_in plan.recut_every step in
+      let keys : m.keys ≡ k.keys = one_keys_after recuts k.grid before.keys m.keys k.keys (subst (λ (p : Both). AreKeysAfter recuts p.0 before.keys m.keys) both h.keys) g.keys in
+      let shown = subst (λ (q : CutPoints). IsAdded r plan (cuts_of q) step k.grid k.field h.added) keys (subst (λ (p : Both). IsAdded r plan (cuts_of m.keys) step p.0 p.1 h.added) both h.shown) in
+      let texts : m.text ≡ k.text = h.text ∙ ap (λ t. before.text ++ t) (one_added (cuts_of k.keys) step k.grid k.field h.added g.added shown g.shown) ∙ sym g.text in
       let lines : m.lines ≡ k.lines = h.lines ∙ ap (λ (f : States). before.lines + added_lines r plan step f) fields ∙ sym g.lines in
-      let keys : m.keys ≡ k.keys = h.keys ∙ sym g.keys in
       λ i. record { keys = keys i; grid = (both i).0; field = (both i).1; text = texts i; lines = lines i }
 
   -- after so many steps a plan comes to one moment

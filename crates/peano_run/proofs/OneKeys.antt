@@ -12,7 +12,7 @@ use Rattle.peano_keys.specs.Grid.{Spacetree, is_leaf}
 use Rattle.peano_curve.specs.Order.{interval_start}
 use Rattle.curve_cuts.specs.Keys.{CutPoints, first_leaf}
 use Rattle.curve_cuts.specs.Leaves.{AreLeaves}
-use Rattle.step_driver.specs.Starts.{AreFirstKeys}
+use Rattle.step_driver.specs.Starts.{AreEqualKeys}
 use Rattle.step_driver.proofs.Places.{in_place, place_in}
 use Rattle.step_driver.proofs.Rising.{Rises, rises}
 
@@ -36,7 +36,7 @@ one_list dim depth g xs ys a b = rise_same (λ c. interval_start dim c depth) xs
     (λ c h. let leaf = All-contains (λ (q : CellKey). IsCell dim q × (is_leaf g q ≡ true)) xs c a.only (in_place c c xs h) in contains_in c ys (b.all c leaf.0 leaf.1))
     (λ c h. let leaf = All-contains (λ (q : CellKey). IsCell dim q × (is_leaf g q ≡ true)) ys c b.only (in_place c c ys h) in contains_in c xs (a.all c leaf.0 leaf.1))
 
-pub one_keys : (depth : ℕ) (g : Spacetree) (trees : ℕ) (p q : CutPoints) → AreFirstKeys depth g trees p → AreFirstKeys depth g trees q → p ≡ q
+pub one_keys : (depth : ℕ) (g : Spacetree) (trees : ℕ) (p q : CutPoints) → AreEqualKeys depth g trees p → AreEqualKeys depth g trees q → p ≡ q
 one_keys depth g trees p q a b =
     let leaves = one_list g.dim depth g a.0 b.0 a.1 b.1 in
     let starts : p.starts ≡ q.starts = same_number_lists p.starts q.starts (a.2.trees ∙ sym b.2.trees) (λ t below. ⊎_elim

@@ -1,5 +1,5 @@
 -- What a step shows of a course, and where a step of its world leads it.
-use Rattle.std.proofs.Common.{append_assoc, add-one, ◌≡◌, ℕ, suc, Some, None, ◌+◌, ◌<◌, ◌≤◌, ◌&&◌, Bool, true, false, if◌then◌else◌, List, [], ◌++◌, length, Vec, Global, refl, sym, subst, ap, ap₂, ◌∙◌, arith}
+use Rattle.std.proofs.Common.{append_assoc, add-one, ◌≡◌, ℕ, suc, Option, Some, None, ◌+◌, ◌<◌, ◌≤◌, ◌&&◌, Bool, true, false, if◌then◌else◌, List, [], ◌++◌, length, Vec, Global, refl, sym, subst, ap, ap₂, ◌∙◌, arith}
 use Rattle.std.specs.Prelude.{Result, Ok, Err, IfOk, IfErr}
 use Rattle.std.specs.Result.{IsErrAnd}
 use Rattle.std.proofs.lemmas.List.{append-nil}
@@ -18,10 +18,10 @@ use Rattle.field_report.specs.Block.{field_block}
 use Rattle.field_report.specs.Traffic.{traffic_block}
 use Rattle.field_report.specs.declared.traffic.Traffic.{Traffic}
 use Rattle.step_world.specs.Notes.{computing_notes}
-use Rattle.step_driver.specs.Notes.{sizes_of, added_notes}
+use Rattle.step_driver.specs.Notes.{sizes_of, recuts_in, added_notes, recut_added}
 use Rattle.step_driver.specs.declared.showing.Shown.{Shown}
 use Rattle.step_driver.specs.Showing.{TellTraffic, IsShown}
-use Rattle.step_driver.specs.Advances.{Advanced, Stopped}
+use Rattle.step_driver.specs.Advances.{AreKeysAfter, Advanced, Stopped}
 use Rattle.step_driver.specs.Worlds.{Seen, IsAt}
 use Rattle.step_sweeps.specs.Kernels.{Kernel}
 use Rattle.grid_file.specs.Plan.{printed}
@@ -80,6 +80,7 @@ not_printed r plan step c m e room h = record {
     stands = record {
       at = h.stands.at;
       solver = h.stands.solver;
+      recut = h.stands.recut;
       keys = h.stands.keys;
       text = h.stands.text ∙ sym (append-nil m.text);
       lines = (let lines = h.stands.lines in let none : added_lines r plan step m.field ≡ 0 = ap (λ p. if p && shows_fields r.show then length (rows_of m.field) else 0) e in omega (arith, lines, none));
@@ -118,10 +119,10 @@ module _ (r : Request) (plan : Plan) (c : Course) (m : Moment) (unshown : Stands
     })
 
     -- or it is shown
-    pub printed_shows : (text : Vec ℕ Global) (lines : ℕ) (fields : List ℕ) → w.solver ≡ c.world.solver → w.keys ≡ c.world.keys → CountsLines r c.lines m.field (Some lines) →
+    pub printed_shows : (text : Vec ℕ Global) (lines : ℕ) (fields : List ℕ) → w.solver ≡ c.world.solver → w.recut ≡ c.world.recut → w.keys ≡ c.world.keys → CountsLines r c.lines m.field (Some lines) →
         fields ≡ c.text.items ++ (if shows_fields r.show then field_block plan.shape.dim shown.step shown.rows.items else []) → text.items ≡ fields ++ (if shows_traffic r.show then traffic_block shown.step shown.traffic.items else []) →
         ShowsStep r plan step m (record { world = w; text = text; lines = lines })
-    printed_shows text lines fields solver keys count first second =
+    printed_shows text lines fields solver recut keys count first second =
         let blocks : (if shows_fields r.show then field_block plan.shape.dim shown.step shown.rows.items else []) ≡ fields_text r plan step m.field =
         ap₂ (λ s rows. if shows_fields r.show then field_block plan.shape.dim s rows else []) is.step_is is.rows in
         let told : (if shows_traffic r.show then traffic_block shown.step shown.traffic.items else []) ≡ traffic = ap (λ s. if shows_traffic r.show then traffic_block s shown.traffic.items else []) is.step_is in
@@ -137,6 +138,7 @@ module _ (r : Request) (plan : Plan) (c : Course) (m : Moment) (unshown : Stands
             stands = record {
               at = subst (λ s. IsAt (parts_in s) w m.grid m.field step) h.solver is.at;
               solver = solver ∙ h.solver;
+              recut = recut ∙ h.recut;
               keys = keys ∙ h.keys;
               text = whole;
               lines = omega (arith, counted, before, same);
@@ -147,25 +149,38 @@ module _ (r : Request) (plan : Plan) (c : Course) (m : Moment) (unshown : Stands
         }
 
 module _ (r : Request) (plan : Plan) (step : ℕ) (c : Course) (m : Moment) (shown : StandsShown r plan step c m) where
-  -- a step of the world is one of the plan's,
+  -- a step of the world is one of the plan's
   pub serves_plan : (adapts : Bool) (w : Seen AnySolver) → (a : Advanced (kernel_of c.world.solver) adapts m.grid m.field c.world w) → IsServedStep (updated_by plan.solver) (marked_by plan.solver) m.grid m.field a.grid a.field
   serves_plan adapts w a = subst (λ s. IsServedStep (updated_by s) (marked_by s) m.grid m.field a.grid a.field) shown.stands.solver a.served
 
-  -- after which the course stands at the next grid and field
-  pub stands_after : (w : Seen AnySolver) → (a : Advanced (kernel_of c.world.solver) (adapting_in c.world.solver) m.grid m.field c.world w) → w.solver ≡ c.world.solver → w.keys ≡ c.world.keys →
-      StandsUnshown r plan (step + 1) (record { world = w; text = c.text; lines = c.lines }) (after_step m a.grid a.field)
-  stands_after w a solver keys = record {
-    stands = record {
-      at = subst (λ n. IsAt (parts_in plan.solver) w a.grid a.field (n + 1)) shown.stands.at.step_is (subst (λ s. IsAt (parts_in s) w a.grid a.field (c.world.step + 1)) shown.stands.solver a.at);
-      solver = solver ∙ shown.stands.solver;
-      keys = keys ∙ shown.stands.keys;
-      text = shown.stands.text;
-      lines = shown.stands.lines;
-    };
-    noted = subst (λ n. HasNotesBefore r.trees plan w.keys n a.grid a.field w.notes) (sym (add-one step)) (subst (λ (p : CutPoints). HasNotesBefore r.trees plan p (suc step) a.grid a.field w.notes) (sym keys)
-        (notes_stepped r.trees plan c.world.keys step m.grid m.field c.world.notes (adapting_in c.world.solver) a.grid a.field w.notes (ap adapting_in shown.stands.solver) shown.noted
-        (serves_plan (adapting_in c.world.solver) w a) (a.noted ∙ ap (λ n. c.world.notes ++ added_notes (cuts_of c.world.keys) (adapting_in c.world.solver) n m.grid a.grid) (ap (λ n. n + 1) shown.stands.at.step_is ∙ add-one step))));
-  }
+  -- that is the next one,
+  next_step : c.world.step + 1 ≡ suc step
+  next_step = ap (λ n. n + 1) shown.stands.at.step_is ∙ add-one step
+
+  module _ (w : Seen AnySolver) (a : Advanced (kernel_of c.world.solver) (adapting_in c.world.solver) m.grid m.field c.world w) where
+    world_keys : AreKeysAfter (recuts_in plan.recut_every (suc step)) a.grid c.world.keys w.keys
+    world_keys = subst (λ n. AreKeysAfter (recuts_in plan.recut_every n) a.grid c.world.keys w.keys) next_step
+        (subst (λ (every : Option ℕ). AreKeysAfter (recuts_in every (c.world.step + 1)) a.grid c.world.keys w.keys) shown.stands.recut a.keys)
+
+    -- after which its trees have the keys that the plan says,
+    pub plan_keys : AreKeysAfter (recuts_in plan.recut_every (suc step)) a.grid m.keys w.keys
+    plan_keys = subst (λ (p : CutPoints). AreKeysAfter (recuts_in plan.recut_every (suc step)) a.grid p w.keys) shown.stands.keys world_keys
+
+    -- and the course stands at the next grid and field
+    pub stands_after : w.solver ≡ c.world.solver → w.recut ≡ c.world.recut → StandsUnshown r plan (step + 1) (record { world = w; text = c.text; lines = c.lines }) (after_step m w.keys a.grid a.field)
+    stands_after solver recut = record {
+      stands = record {
+        at = subst (λ n. IsAt (parts_in plan.solver) w a.grid a.field (n + 1)) shown.stands.at.step_is (subst (λ s. IsAt (parts_in s) w a.grid a.field (c.world.step + 1)) shown.stands.solver a.at);
+        solver = solver ∙ shown.stands.solver;
+        recut = recut ∙ shown.stands.recut;
+        keys = refl;
+        text = shown.stands.text;
+        lines = shown.stands.lines;
+      };
+      noted = subst (λ n. HasNotesBefore r.trees plan w.keys n a.grid a.field w.notes) (sym (add-one step))
+          (notes_stepped r.trees plan c.world.keys w.keys step m.grid m.field c.world.notes (adapting_in c.world.solver) a.grid a.field w.notes (ap adapting_in shown.stands.solver) shown.noted (serves_plan (adapting_in c.world.solver) w a) world_keys
+          (a.noted ∙ ap₂ (λ n every. c.world.notes ++ (added_notes (cuts_of c.world.keys) (adapting_in c.world.solver) n m.grid a.grid ++ recut_added every c.world.keys w.keys n a.grid)) next_step shown.stands.recut));
+    }
 
   -- where it is refused, the notes go up to the secondary sweeps,
   refused_left : (w : Seen AnySolver) (s : ℕ) → s ≡ c.world.step + 1 → w.keys ≡ c.world.keys → w.live ≡ false → w.notes ≡ c.world.notes ++ computing_notes (sizes_of (cuts_of c.world.keys)) (cuts_of c.world.keys).trees (c.world.step + 1) m.grid → EndsInStep r.trees plan s w
@@ -182,9 +197,9 @@ module _ (r : Request) (plan : Plan) (step : ℕ) (c : Course) (m : Moment) (sho
   }
 
   -- and the plan is refused
-  pub refused_overflow : (w : Seen AnySolver) (s : ℕ) (key : CellKey) (refused : Refused) → refused ≡ record { answer = Overflow s key; world = Some w } → w.keys ≡ c.world.keys → GoesOn r plan step m → step < plan.steps
+  pub refused_overflow : (w : Seen AnySolver) (s : ℕ) (key : CellKey) (refused : Refused) → refused ≡ record { answer = Overflow s key; world = Some w } → GoesOn r plan step m → step < plan.steps
       → Stopped (kernel_of c.world.solver) (adapting_in c.world.solver) m.grid m.field c.world w (Faults.Overflow s key) → IsStopped r plan refused
-  refused_overflow w s key refused e keys on more stopped =
+  refused_overflow w s key refused e on more stopped =
       let fails = stopped.fails.0 in
       let at = shown.stands.at.step_is in
       let same = fails.0 in
@@ -197,12 +212,12 @@ module _ (r : Request) (plan : Plan) (step : ℕ) (c : Course) (m : Moment) (sho
           reached = on;
           overflows = subst (λ x. Overflows (updated_by x) m.grid m.field key) shown.stands.solver fails.1;
         };
-        left = refused_left w s same keys stopped.live stopped.fails.1;
+        left = refused_left w s same stopped.keys stopped.live stopped.fails.1;
       })
 
-  pub refused_crowded : (w : Seen AnySolver) (s cells : ℕ) (refused : Refused) → refused ≡ record { answer = Crowded s cells; world = Some w } → w.keys ≡ c.world.keys → GoesOn r plan step m → step < plan.steps
+  pub refused_crowded : (w : Seen AnySolver) (s cells : ℕ) (refused : Refused) → refused ≡ record { answer = Crowded s cells; world = Some w } → GoesOn r plan step m → step < plan.steps
       → Stopped (kernel_of c.world.solver) (adapting_in c.world.solver) m.grid m.field c.world w (Faults.Crowded s cells) → IsStopped r plan refused
-  refused_crowded w s cells refused e keys on more stopped =
+  refused_crowded w s cells refused e on more stopped =
       let fails = stopped.fails.0 in
       let at = shown.stands.at.step_is in
       let same = fails.0 in
@@ -215,5 +230,5 @@ module _ (r : Request) (plan : Plan) (step : ℕ) (c : Course) (m : Moment) (sho
           reached = on;
           crowds = subst (λ x. Crowds (updated_by x) (marked_by x) m.grid m.field cells) shown.stands.solver fails.1;
         };
-        left = refused_left w s same keys stopped.live stopped.fails.1;
+        left = refused_left w s same stopped.keys stopped.live stopped.fails.1;
       })

@@ -19,6 +19,7 @@ use Rattle.peano_run.specs.Left.{HasNotesBefore, HasNotesTo, LeavesOf}
 pub record StandsAtMoment (plan : Plan) (step : ℕ) (c : Course) (m : Moment) : Type 0 where
   pub at : IsAt (parts_in plan.solver) c.world m.grid m.field step
   pub solver : c.world.solver ≡ plan.solver
+  pub recut : c.world.recut ≡ plan.recut_every
   pub keys : c.world.keys ≡ m.keys
   pub text : c.text.items ≡ m.text
   pub lines : c.lines ≡ m.lines

@@ -1,5 +1,5 @@
 -- The world that a run leaves: where it stands, and the notes of the sweeps that led it there.
-use Rattle.std.specs.Prelude.{◌≡◌, ℕ, zero, suc, ◌+◌, ◌<◌, Bool, true, false, List, [], ◌++◌, Option, Some, None, ⊤}
+use Rattle.std.specs.Prelude.{◌≡◌, ℕ, zero, suc, ◌+◌, ◌<◌, ◌≤◌, Bool, true, false, List, [], ◌++◌, Option, Some, None, ⊤}
 use Rattle.peano_keys.specs.Grid.{Spacetree}
 use Rattle.peano_keys.specs.Field.{States}
 use Rattle.vertex_stacks.specs.Notes.{Note}
@@ -8,9 +8,10 @@ use Rattle.volume_solver.specs.Any.{updated_by, marked_by, adapting_in, parts_in
 use Rattle.spacetree.specs.Opening.{Opens, OpensField}
 use Rattle.spacetree.specs.Evaluation.{IsServedStep}
 use Rattle.curve_cuts.specs.Keys.{CutPoints, cuts_of}
-use Rattle.step_world.specs.Notes.{Course, HasNotes, by_trees, note_raised, step_notes, computing_notes}
-use Rattle.step_driver.specs.Notes.{sizes_of}
-use Rattle.step_driver.specs.Starts.{AreFirstKeys}
+use Rattle.step_world.specs.Notes.{Course, HasNotes, by_trees, note_raised, step_notes, recut_notes, computing_notes}
+use Rattle.step_driver.specs.Notes.{sizes_of, recuts_in}
+use Rattle.step_driver.specs.Starts.{AreEqualKeys}
+use Rattle.step_driver.specs.Advances.{AreKeysAfter}
 use Rattle.step_driver.specs.Worlds.{Seen, IsAt}
 use Rattle.grid_file.specs.declared.plan.Plan.{Plan}
 use Rattle.grid_file.specs.Plan.{printed}
@@ -18,42 +19,63 @@ use Rattle.peano_run.specs.declared.answer.Answer.{Answer}
 use Rattle.peano_run.specs.declared.answer.Answer.TheVariants.{Done, WriteFault, Overflow, Crowded, Limit}
 use Rattle.peano_run.specs.declared.answer.LimitKind.TheVariants.{Lines}
 use Rattle.peano_run.specs.declared.asked.Request.{Request}
-use Rattle.peano_run.specs.Report.{Moment, GoesOn, OfPlan, added_lines, most_lines}
+use Rattle.peano_run.specs.Report.{AreKeysAt, Moment, GoesOn, OfPlan, added_lines, most_lines}
 
--- the sweeps of a plan's run: of so many trees, with adaptations where there is a criterion, and showings after the printed steps
+-- the sweeps of a plan's run: of so many trees, with adaptations where there is a criterion, trees that are cut anew, and showings after the printed steps
 abbrev pub schedule_of : ℕ → Plan → Course
 schedule_of trees plan =
     record {
       trees = trees;
       adapts = adapting_in plan.solver;
-      recuts = λ s. false;
+      recuts = recuts_in plan.recut_every;
       printed = printed plan;
     }
 
--- a run of a plan begins with its opening grid and field, and with the keys of so many trees of equal shares
-pub record IsBegun (trees : ℕ) (plan : Plan) (keys : CutPoints) (g : Spacetree)
-    (f : States) : Type 0 where
+-- a run of a plan begins with its opening grid and field
+pub record IsBegun (plan : Plan) (g : Spacetree) (f : States) : Type 0 where
   pub grid : Opens plan.shape g
   pub field : OpensField g plan.fills (parts_in plan.solver) f
-  pub cut : AreFirstKeys plan.shape.depth g trees keys
 
--- the notes of the whole schedule up to the end of a step, with the grid and the field to which the evaluation leads in it
+-- The notes of the whole schedule up to the end of a step, with the grid and the field to which the evaluation leads in it. `cut` has the keys of the trees after
+-- each step up to it, of which the last are the present ones.
 pub record HasNotesTo (trees : ℕ) (plan : Plan) (keys : CutPoints) (step : ℕ) (g : Spacetree)
     (f : States) (ns : List Note) : Type 0 where
   pub first_grid : Spacetree
   pub first_field : States
-  pub begun : IsBegun trees plan keys first_grid first_field
-  pub noted : HasNotes (λ s. sizes_of (cuts_of keys)) (schedule_of trees plan) (updated_by plan.solver)
-      (marked_by plan.solver) first_grid first_field step g f ns
+  pub begun : IsBegun plan first_grid first_field
+  pub cut : ℕ → CutPoints
+  pub keys_at : (s : ℕ) → s ≤ step → AreKeysAt trees plan first_grid first_field s (cut s)
+  pub now : cut step ≡ keys
+  pub noted : HasNotes (λ s. sizes_of (cuts_of (cut s))) (schedule_of trees plan)
+      (updated_by plan.solver) (marked_by plan.solver) first_grid first_field step g f ns
+
+-- a run opens with trees of equal shares, and the notes of their raising
+pub record HasFirstNotes (trees : ℕ) (plan : Plan) (keys : CutPoints) (g : Spacetree) (f : States)
+    (ns : List Note) : Type 0 where
+  pub begun : IsBegun plan g f
+  pub shares : AreEqualKeys plan.shape.depth g trees keys
+  pub noted : ns ≡ by_trees trees (note_raised (sizes_of (cuts_of keys)) 0 g)
+
+-- the step after another adds its notes to those up to the end of that, and then those of trees that are cut anew
+pub record HasNextNotes (trees : ℕ) (plan : Plan) (keys : CutPoints) (n : ℕ) (g : Spacetree)
+    (f : States) (ns : List Note) : Type 0 where
+  pub last_grid : Spacetree
+  pub last_field : States
+  pub last_keys : CutPoints
+  pub last : List Note
+  pub earlier : HasNotesTo trees plan last_keys n last_grid last_field last
+  pub served : IsServedStep (updated_by plan.solver) (marked_by plan.solver)
+      last_grid last_field g f
+  pub cut : AreKeysAfter (recuts_in plan.recut_every (suc n)) g last_keys keys
+  pub noted : ns ≡ last
+      ++ step_notes (sizes_of (cuts_of last_keys)) (schedule_of trees plan) (suc n) last_grid g
+      ++ recut_notes (sizes_of (cuts_of last_keys)) (sizes_of (cuts_of keys))
+      (schedule_of trees plan) (suc n) g
 
 -- the notes up to the showing of a step
 abbrev pub HasNotesBefore : ℕ → Plan → CutPoints → ℕ → Spacetree → States → List Note → Type 0
-HasNotesBefore trees plan keys zero g f ns = IsBegun trees plan keys g f
-    × (ns ≡ by_trees trees (note_raised (sizes_of (cuts_of keys)) 0 g))
-HasNotesBefore trees plan keys (suc n) g f ns = (u : Spacetree) × (b : States) × (ms : List Note)
-    × HasNotesTo trees plan keys n u b ms
-    × IsServedStep (updated_by plan.solver) (marked_by plan.solver) u b g f
-    × (ns ≡ ms ++ step_notes (sizes_of (cuts_of keys)) (schedule_of trees plan) (suc n) u g)
+HasNotesBefore trees plan keys zero g f ns = HasFirstNotes trees plan keys g f ns
+HasNotesBefore trees plan keys (suc n) g f ns = HasNextNotes trees plan keys n g f ns
 
 -- a world at the grid and the field to which the last step of a plan leads, with the notes of all sweeps
 pub record EndsAtLast (trees : ℕ) (plan : Plan) (w : Seen AnySolver) : Type 0 where

@@ -1,5 +1,5 @@
 -- The course of a run, step by step, and what it comes to: the report of a file, or the cause of a refusal.
-use Rattle.std.specs.Prelude.{◌≡◌, ℕ, zero, suc, ◌+◌, ◌<◌, ◌≤◌, ◌&&◌, Bool, true, false, List, [], ◌∷◌, ◌++◌, length, flat_map, slice_index_or, if◌then◌else◌, Ok, Err}
+use Rattle.std.specs.Prelude.{◌≡◌, ℕ, zero, suc, ◌+◌, ◌-◌, ◌%◌, ◌<◌, ◌≤◌, ◌&&◌, Bool, true, false, List, [], ◌∷◌, ◌++◌, length, flat_map, slice_index_or, if◌then◌else◌, Option, None, Some, Ok, Err}
 use Rattle.peano_keys.specs.declared.cell.CellKey.{CellKey}
 use Rattle.peano_keys.specs.Grid.{Spacetree}
 use Rattle.peano_keys.specs.Field.{States}
@@ -23,8 +23,10 @@ use Rattle.curve_cuts.specs.Cuts.{Cuts}
 use Rattle.curve_cuts.specs.Keys.{CutPoints, cuts_of}
 use Rattle.command_line.specs.declared.words.ShowWhat.{ShowWhat}
 use Rattle.command_line.specs.declared.words.ShowWhat.TheVariants.{Fields, Traffic as TrafficAlone, All}
+use Rattle.step_driver.specs.Notes.{recuts_in}
 use Rattle.step_driver.specs.Showing.{TellTraffic}
-use Rattle.step_driver.specs.Starts.{AreFirstKeys}
+use Rattle.step_driver.specs.Starts.{AreEqualKeys}
+use Rattle.step_driver.specs.Advances.{AreKeysAfter}
 use Rattle.peano_run.specs.declared.asked.Request.{Request}
 
 -- the longest input that is read
@@ -42,6 +44,20 @@ pub record Moment : Type 0 where
   pub field : States
   pub text : List ℕ
   pub lines : ℕ
+
+-- the greatest step up to one after which the trees are cut anew, a multiple of a number; 0 where they never are
+abbrev pub last_cut : Option ℕ → ℕ → ℕ
+last_cut None step = 0
+last_cut (Some every) step = step - step % every
+
+-- the keys that so many trees have after a step of a plan's run from an opening grid and field: those of equal shares of the grid to which the evaluation leads in the last step up to it after which they are cut
+pub record AreKeysAt (trees : ℕ) (plan : Plan) (g : Spacetree) (f : States) (step : ℕ)
+    (keys : CutPoints) : Type 0 where
+  pub grid : Spacetree
+  pub field : States
+  pub led : Evaluates (updated_by plan.solver) (marked_by plan.solver)
+      g f (last_cut plan.recut_every step) grid field
+  pub shares : AreEqualKeys plan.shape.depth grid trees keys
 
 -- whether fields are shown, and whether traffic is
 abbrev pub shows_fields : ShowWhat → Bool
@@ -92,7 +108,7 @@ pub record Starts (r : Request) (plan : Plan) (m : Moment) : Type 0 where
   pub grid : Opens plan.shape m.grid
   pub room : cells_of m.grid ≤ MOST_CELLS
   pub field : OpensField m.grid plan.fills (parts_in plan.solver) m.field
-  pub keys : AreFirstKeys plan.shape.depth m.grid r.trees m.keys
+  pub keys : AreEqualKeys plan.shape.depth m.grid r.trees m.keys
   pub text : IsAdded r plan (cuts_of m.keys) 0 m.grid m.field m.text
   pub lines : m.lines ≡ added_lines r plan 0 m.field
 
@@ -100,11 +116,11 @@ pub record Starts (r : Request) (plan : Plan) (m : Moment) : Type 0 where
 pub record IsNextMoment (r : Request) (plan : Plan) (step : ℕ)
     (before after : Moment) : Type 0 where
   pub room : before.lines ≤ most_lines
-  pub keys : after.keys ≡ before.keys
+  pub keys : AreKeysAfter (recuts_in plan.recut_every step) after.grid before.keys after.keys
   pub taken : IsServedStep (updated_by plan.solver)
       (marked_by plan.solver) before.grid before.field after.grid after.field
   pub added : List ℕ
-  pub shown : IsAdded r plan (cuts_of before.keys) step after.grid after.field added
+  pub shown : IsAdded r plan (cuts_of after.keys) step after.grid after.field added
   pub text : after.text ≡ before.text ++ added
   pub lines : after.lines ≡ before.lines + added_lines r plan step after.field
 
@@ -119,25 +135,25 @@ pub record GoesOn (r : Request) (plan : Plan) (n : ℕ) (m : Moment) : Type 0 wh
   pub reached : Reaches r plan n m
   pub room : m.lines ≤ most_lines
 
--- a run of a plan opens: with the opening grid and the opening field, cut into trees of equal shares
-pub record OpensRun (r : Request) (plan : Plan) (keys : CutPoints) (g : Spacetree)
-    (f : States) : Type 0 where
+-- a run of a plan opens: with the opening grid and the opening field
+pub record OpensRun (plan : Plan) (g : Spacetree) (f : States) : Type 0 where
   pub grid : Opens plan.shape g
   pub room : cells_of g ≤ MOST_CELLS
   pub field : OpensField g plan.fills (parts_in plan.solver) f
-  pub cut : AreFirstKeys plan.shape.depth g r.trees keys
 
 -- what a step adds to a report: a text, and how many leaf lines it has
 pub record Block : Type 0 where
   pub text : List ℕ
   pub lines : ℕ
 
--- the block of a step shows the grid and the field to which the evaluation leads in it
-pub record BlockOf (r : Request) (plan : Plan) (keys : CutPoints) (g : Spacetree) (f : States)
-    (step : ℕ) (b : Block) : Type 0 where
+-- the block of a step shows the grid and the field to which the evaluation leads in it, and the traffic of trees with the keys that they have then
+pub record BlockOf (r : Request) (plan : Plan) (g : Spacetree) (f : States) (step : ℕ)
+    (b : Block) : Type 0 where
   pub grid : Spacetree
   pub field : States
+  pub keys : CutPoints
   pub led : Evaluates (updated_by plan.solver) (marked_by plan.solver) g f step grid field
+  pub cut : AreKeysAt r.trees plan g f step keys
   pub told : IsAdded r plan (cuts_of keys) step grid field b.text
   pub counted : b.lines ≡ added_lines r plan step field
 
@@ -152,14 +168,13 @@ lines_in (b ∷ bs) = b.lines + lines_in bs
 
 -- a text is the report of a plan: the blocks of its steps from 0 to the last, in order, with no more lines together than there may be
 pub record IsReportOf (r : Request) (plan : Plan) (text : List ℕ) : Type 0 where
-  pub keys : CutPoints
   pub grid : Spacetree
   pub field : States
-  pub opens : OpensRun r plan keys grid field
+  pub opens : OpensRun plan grid field
   pub blocks : List Block
   pub count : length blocks ≡ plan.steps + 1
   pub each : (s : ℕ) (d : Block) → s ≤ plan.steps
-      → BlockOf r plan keys grid field s (slice_index_or blocks s d)
+      → BlockOf r plan grid field s (slice_index_or blocks s d)
   pub text_is : text ≡ texts_in blocks
   pub room : lines_in blocks ≤ most_lines
 

@@ -14,7 +14,8 @@ use std::thread::Threads;
 use step_driver::World;
 use volume_solver::AnySolver;
 
-// The world of a plan on its opening grid, with its opening field, before the first step.
+// The world of a plan on its opening grid, with its opening field, before the first step. Its trees are cut anew where the
+// plan says.
 pub(crate) fn begin<R: Threads + Sync>(
     rt: &R,
     alloc: Global,
@@ -38,5 +39,6 @@ pub(crate) fn begin<R: Threads + Sync>(
         &field,
         plan.solver,
         trees,
+        plan.recut_every,
     )
 }

@@ -20,11 +20,12 @@ use Rattle.sweep_visits.specs.Moves.{moves_of, taken_by, put_by}
 use Rattle.sweep_visits.specs.Visits.{Visit, enter, leave, visits_of}
 use Rattle.sweep_streams.specs.Counts.{pushed_by}
 use Rattle.sweep_streams.specs.Records.{entered_at, left_at}
-use Rattle.vertex_stacks.specs.declared.kind.Kind.TheVariants as kind
+use Rattle.vertex_stacks.specs.declared.kind.Kind.{Kind}
+use Rattle.vertex_stacks.specs.declared.kind.Kind.TheVariants.{Raise, Show, Primary, Secondary, Adapt, Recut}
 use Rattle.vertex_stacks.specs.Notes.{Note}
 use Rattle.tree_automaton.specs.declared.kinds.Serves.TheVariants.{Plain}
 use Rattle.tree_automaton.specs.TreeLists.{TreeLists}
-use Rattle.tree_automaton.specs.Sweep.{TreeSweep}
+use Rattle.tree_automaton.specs.Sweep.{TreeSweep, served_by}
 use Rattle.tree_automaton.specs.Promises.{Meaning}
 use Rattle.tree_automaton.specs.Story.{Call, IsAmong, with_calls}
 use Rattle.tree_automaton.specs.Sweeps.{Stands, begun}
@@ -49,6 +50,7 @@ use Rattle.showing_sweep.specs.Counts.{AreSoMany, Counts, ListsAll}
 use Rattle.showing_sweep.specs.Sent.{IsPairOf, IsVertexOf}
 use Rattle.showing_sweep.specs.Shown.{Amounts, AreAmounts, IsRowOf, IsTraffic}
 use Rattle.showing_sweep.specs.Shows.{ShowWork, ShowEnters, ShowLeaves, nothing_counted}
+use Rattle.showing_sweep.specs.Sweeps.{IsGathering}
 use Rattle.showing_sweep.proofs.Found.{AreCounted, AreFound, all_found}
 use Rattle.showing_sweep.proofs.Hanging.{hanging_at}
 use Rattle.showing_sweep.proofs.Moved.{corners_add_up}
@@ -59,9 +61,18 @@ use Rattle.showing_sweep.proofs.Calls.{AreCounts, IsSoFar, all_shown, itself, ro
 abbrev pub showing_meaning : Dim → Meaning
 showing_meaning dim = record { serves = Plain; dim = dim; new_grid = record { dim = dim; refined = set.empty }; may_want = true; loan = 0 }
 
--- a store that stands for a grid and a field can be shown
-pub can_show : (k : Cuts) (parts : ℕ) (dir : Direction) (g : Spacetree) (f : States) (s : TreeLists) (meaning : Meaning) → StandsOn k parts dir g f s → meaning.serves ≡ Plain → meaning.dim ≡ k.dim → CanSweep (plain_plan k.depth (range_of k s.tree) dir g) s.tree f meaning kind.Show s
-can_show k parts dir g f s meaning on serves dim = store_can_be_swept k.depth (range_of k s.tree) s.tree dir g f s meaning kind.Show on.grid.deepest on.grid.grid on.stands refl serves (dim ∙ sym on.grid.dim)
+-- a sweep that gathers rows changes nothing
+pub gathering_is_plain : (kind : Kind) → IsGathering kind → served_by kind ≡ Plain
+gathering_is_plain Show gathers = refl
+gathering_is_plain Recut gathers = refl
+gathering_is_plain Raise gathers = absurd gathers
+gathering_is_plain Primary gathers = absurd gathers
+gathering_is_plain Secondary gathers = absurd gathers
+gathering_is_plain Adapt gathers = absurd gathers
+
+-- a store that stands for a grid and a field can be shown, and its rows can be gathered
+pub can_show : (k : Cuts) (parts : ℕ) (dir : Direction) (g : Spacetree) (f : States) (kind : Kind) (s : TreeLists) (meaning : Meaning) → IsGathering kind → StandsOn k parts dir g f s → meaning.serves ≡ Plain → meaning.dim ≡ k.dim → CanSweep (plain_plan k.depth (range_of k s.tree) dir g) s.tree f meaning kind s
+can_show k parts dir g f kind s meaning gathers on serves dim = store_can_be_swept k.depth (range_of k s.tree) s.tree dir g f s meaning kind on.grid.deepest on.grid.grid on.stands (gathering_is_plain kind gathers) serves (dim ∙ sym on.grid.dim)
 
 in_at : (xs : List Stored) (i : ℕ) (d : Stored) → i < length xs → IsIn (get_or xs i d) xs
 in_at [] i d below = absurd (omega (arith, below))
@@ -91,9 +102,9 @@ same_traffic a b tree cells stored pushes hanging enclave skeleton sent =
     ∙ (ap (λ x. record b { skeleton = x; sent = a.sent }) skeleton
     ∙ ap (λ x. record b { sent = x }) sent))))))
 
-module _ (start end : ShowWork) (dir : Direction) (g : Spacetree) (f : States) (parts step : ℕ) (s t : TreeLists) (note : Note) (task : CellKey → ℕ)
+module _ (start end : ShowWork) (dir : Direction) (g : Spacetree) (f : States) (parts step : ℕ) (kind : Kind) (s t : TreeLists) (note : Note) (task : CellKey → ℕ)
     (on : StandsOn (cuts_of start.keys) parts dir g f s) (same_tree : start.tree ≡ s.tree) (no_rows : start.rows ≡ []) (nothing : start.counts ≡ nothing_counted)
-    (tree : IsSweptTree ShowEnters ShowLeaves (cuts_of start.keys) start.tree (plain_sweep (cuts_of start.keys) start.tree dir g f s.tree task) step kind.Show s t start end note) where
+    (tree : IsSweptTree ShowEnters ShowLeaves (cuts_of start.keys) start.tree (plain_sweep (cuts_of start.keys) start.tree dir g f s.tree task) step kind s t start end note) where
   abbrev k : Cuts
   k = cuts_of start.keys
 
@@ -119,7 +130,7 @@ module _ (start end : ShowWork) (dir : Direction) (g : Spacetree) (f : States) (
   says_after before v has =
       swept_says k v (AtRest g (value_of g f)) (AtRest g (value_of g f)) (λ c x y. y ≡ x) (copies s.lanes.input v) (copies t.lanes.input v) (before v has)
       (swept_less k _ (λ c x y. y ≡ x) v (copies s.lanes.input v) (copies t.lanes.input v) (if_held k start.tree (λ c x y. y ≡ x) (λ c x y. y ≡ x) (λ c a b h. h) (λ c a none. refl))
-      (plain_swept ShowEnters ShowLeaves k start.tree p step kind.Show s t start end note (λ c x y. y ≡ x) tree refl each_visit v has))
+      (plain_swept ShowEnters ShowLeaves k start.tree p step kind s t start end note (λ c x y. y ≡ x) tree refl each_visit v has))
       (λ n c below at is same. subst (AtRest g (value_of g f) c) (sym same) is)
 
   -- what was gathered and counted in all calls

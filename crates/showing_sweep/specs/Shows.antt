@@ -1,5 +1,5 @@
 -- What the visitor of a showing sweep does.
-use Rattle.std.specs.Prelude.{◌≡◌, ◌⊎◌, ◌↔◌, ℕ, ◌+◌, Bool, true, false, IsTrue, IsFalse, List, [], ◌∷◌, ◌++◌, count_by, Some}
+use Rattle.std.specs.Prelude.{◌≡◌, ◌⊎◌, ℕ, ◌+◌, Bool, true, false, List, [], ◌∷◌, ◌++◌, count_by}
 use Rattle.std.specs.FinSet as set
 use Rattle.peano_keys.specs.declared.dim.Dim.{Dim}
 use Rattle.peano_records.specs.declared.view.Corner.{Corner}

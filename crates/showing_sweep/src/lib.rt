@@ -1,5 +1,5 @@
-//! The showing sweep of a tree: it changes nothing, gathers the rows of the leaves that the tree owns, and counts what
-//! the tree holds of the grid and moves over it.
+//! The sweep that shows a tree, or gathers its rows before the trees are cut anew: it changes nothing, gathers the rows
+//! of the leaves that the tree owns, and counts what the tree holds of the grid and moves over it.
 #![tactic(auto)]
 
 mod counts;

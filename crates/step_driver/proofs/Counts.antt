@@ -103,8 +103,8 @@ pub note_plain : (k : Cuts) (g : Spacetree) (dir : Direction) (kind : Kind) (ste
 note_plain k g dir kind step t fits = same_note step kind t _ _ _ _ _ _ (takes_alike k.depth (range_of k t) g fits.deepest fits.grid dir) (puts_alike k.depth (range_of k t) g fits.deepest fits.grid dir) (pushes_alike k.depth (range_of k t) g fits.deepest fits.grid dir)
 
 -- and of a raising sweep
-pub note_raising : (k : Cuts) (g : Spacetree) (t : ℕ) → IsCutGrid k g → note_of (raising_plan k.depth (range_of k t) Forward g) Raise 0 t ≡ note_raised (sizes_of k) 0 g t
-note_raising k g t fits = same_note 0 Raise t _ _ _ _ _ _ (raising_takes k.depth (range_of k t) g fits.deepest fits.grid) (raising_puts k.depth (range_of k t) g fits.deepest fits.grid) (raising_pushes k.depth (range_of k t) g fits.deepest fits.grid)
+pub note_raising : (k : Cuts) (g : Spacetree) (step t : ℕ) → IsCutGrid k g → note_of (raising_plan k.depth (range_of k t) Forward g) Raise step t ≡ note_raised (sizes_of k) step g t
+note_raising k g step t fits = same_note step Raise t _ _ _ _ _ _ (raising_takes k.depth (range_of k t) g fits.deepest fits.grid) (raising_puts k.depth (range_of k t) g fits.deepest fits.grid) (raising_pushes k.depth (range_of k t) g fits.deepest fits.grid)
 
 -- so of a sweep from one grid to another
 module _ (depth : ℕ) (range : Range) (old new : Spacetree) (deep : depth ≤ 12) (old_grid : IsGrid depth old) (new_grid : IsGrid depth new) (same : old.dim ≡ new.dim) where

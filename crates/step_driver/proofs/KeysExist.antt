@@ -13,7 +13,7 @@ use Rattle.curve_cuts.specs.Leaves.{AreLeaves, InCurveOrder}
 use Rattle.curve_cuts.proofs.Filled.{IsFilled, filled_more}
 use Rattle.curve_cuts.proofs.Leaves.{are_cuts, equal_cuts, some_leaf}
 use Rattle.curve_cuts.proofs.Shares.{share_below}
-use Rattle.step_driver.specs.Starts.{FirstKeysExist}
+use Rattle.step_driver.specs.Starts.{EqualKeysExist}
 use Rattle.step_driver.proofs.Begins.{one_leaf}
 use Rattle.step_driver.proofs.Places.{in_place, place_in}
 use Rattle.step_driver.proofs.Rising.{put_along, rises_along}
@@ -46,8 +46,8 @@ module _ (depth : ℕ) (g : Spacetree) (trees : ℕ) (leaves : List CellKey) (ar
       let more = filled_more g.dim depth leaves trees n rest.0 start place root rest.1 refl (share_below n trees (length leaves) (omega (arith, h)) (some_leaf g.dim depth leaves ordered deepest)) refl in
       (rest.0 ++ start ∷ [], subst (λ m. IsFilled g.dim depth leaves trees m (rest.0 ++ start ∷ [])) (add-one n) more)
 
-pub first_keys_exist : FirstKeysExist
-first_keys_exist depth g trees deepest grid some most =
+pub equal_keys_exist : EqualKeysExist
+equal_keys_exist depth g trees deepest grid some most =
     let leaves = leaves_exist depth g grid in
     let starts = filled depth g trees leaves.0 leaves.1 deepest trees (omega arith) in
     let order : InCurveOrder g.dim depth leaves.0 = (g, leaves.1) in

@@ -23,11 +23,12 @@ pub mod Summed
 pub mod SweptTwice
 pub mod Stepped
 pub mod Taken
+pub mod Rising
+pub mod KeysExist
+pub mod Recuts
 pub mod Advances
 pub mod Showns
 pub mod InOrder
 pub mod Rests
 pub mod LeafCounts
-pub mod Rising
-pub mod KeysExist
 pub mod TrafficExists

@@ -1,5 +1,5 @@
 -- Trees that were shown are where they were, and their rows are the field's.
-use Rattle.std.proofs.Common.{◌≡◌, ℕ, ◌<◌, List, Option, Some, None, unwrap_or, refl, ap, sym, subst, ◌∙◌, arith}
+use Rattle.std.proofs.Common.{◌≡◌, ◌≢◌, ℕ, ◌<◌, List, Option, Some, None, unwrap_or, refl, ap, sym, subst, ◌∙◌, arith}
 use Rattle.std.specs.Prelude.{IsSome, pos, length, slice_index_or}
 use Rattle.std.specs.FinMap as fin
 use Rattle.std.proofs.lemmas.Bool.{false≢true}
@@ -13,9 +13,10 @@ use Rattle.curve_cuts.specs.Cuts.{Cuts, IsCutGrid, range_of}
 use Rattle.curve_cuts.proofs.Apart.{leaf_is_owned}
 use Rattle.spacetree.specs.declared.row.Row.{Row}
 use Rattle.spacetree.specs.Fields.{HasLeaves}
-use Rattle.vertex_stacks.specs.declared.kind.Kind.TheVariants as kind
+use Rattle.vertex_stacks.specs.declared.kind.Kind.{Kind}
+use Rattle.vertex_stacks.specs.declared.kind.Kind.TheVariants.{Raise, Show, Primary, Secondary, Adapt, Recut}
 use Rattle.vertex_stacks.specs.Notes.{Note}
-use Rattle.vertex_stacks.specs.Tales.{TaleGrows}
+use Rattle.vertex_stacks.specs.Tales.{TaleGrows, place_of}
 use Rattle.sweep_visits.specs.Runs.{turned_round}
 use Rattle.tree_automaton.specs.TreeLists.{TreeLists}
 use Rattle.tree_automaton.specs.AtRest.{StandsFor}
@@ -23,6 +24,7 @@ use Rattle.step_world.specs.Notes.{note_over}
 use Rattle.field_report.specs.declared.traffic.Traffic.{Traffic}
 use Rattle.showing_sweep.specs.Counts.{ListsAll}
 use Rattle.showing_sweep.specs.Laws.{amounts_in}
+use Rattle.showing_sweep.specs.Sweeps.{IsGathering}
 use Rattle.showing_sweep.proofs.Exact.{traffic_is_exact, amounts_are_one}
 use Rattle.step_driver.specs.declared.showing.Shown.{Shown}
 use Rattle.step_driver.specs.Notes.{sizes_of, HaveTales}
@@ -37,6 +39,15 @@ there_is (Some s) d h = refl
 
 some_is_some : (o : Option State) (s : State) → o ≡ Some s → IsSome o
 some_is_some o s e = subst (λ p. IsSome p) (sym e) refl
+
+-- sweeps that gather rows raise nothing
+pub gathers_no_raising : (kind : Kind) → IsGathering kind → place_of kind ≢ 0
+gathers_no_raising Show h e = absurd (omega (arith, e))
+gathers_no_raising Recut h e = absurd (omega (arith, e))
+gathers_no_raising Raise h e = absurd h
+gathers_no_raising Primary h e = absurd h
+gathers_no_raising Secondary h e = absurd h
+gathers_no_raising Adapt h e = absurd h
 
 -- the rows of all trees are those of the field
 pub all_rows : (k : Cuts) (g : Spacetree) (f : States) (rows : List Row) → IsCutGrid k g → HasLeaves g f → ListsAll (IsRowOfFirst k g f k.trees) rows → AreRowsOf f rows
@@ -54,10 +65,10 @@ all_rows k g f rows fits leaves h = record {
   );
 }
 
-module _ (parts : ℕ) (k : Cuts) (g : Spacetree) (f : States) (step cells : ℕ) (before after : List TreeLists) (old new : List Note) (shown : Shown) (grows : TaleGrows)
-    (at : AreAt parts k before old cells g f) (h : AreShown k parts at.dir g f step before after old new shown) where
+module _ (parts : ℕ) (k : Cuts) (g : Spacetree) (f : States) (step : ℕ) (kind : Kind) (cells : ℕ) (before after : List TreeLists) (old new : List Note) (shown : Shown) (grows : TaleGrows) (other : place_of kind ≢ 0)
+    (at : AreAt parts k before old cells g f) (h : AreShown k parts at.dir g f step kind before after old new shown) where
   tales : HaveTales k.trees after new
-  tales = subst (HaveTales k.trees after) (sym h.gathered.noted) (tales_grow (note_over (sizes_of k) step kind.Show g) (λ s. refl) grows k.trees before after old at.tales (λ t below. (h.trees.changed t below).tale))
+  tales = subst (HaveTales k.trees after) (sym h.gathered.noted) (tales_grow (note_over (sizes_of k) step kind g) (λ s. refl) grows (λ s. other) k.trees before after old at.tales (λ t below. (h.trees.changed t below).tale))
 
   pub still_at : AreAt parts k after new cells g f
   still_at = record {

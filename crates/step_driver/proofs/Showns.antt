@@ -1,4 +1,4 @@
--- The showing sweeps of all trees, and what they gather, tree after tree.
+-- The sweeps of all trees that gather rows, and what they gather, tree after tree.
 use Rattle.std.proofs.Common.{◌≡◌, ℕ, ◌+◌, ◌<◌, List, [], ◌∷◌, ◌++◌, length, map, get_or, refl, ap, sym, subst, ◌∙◌, ⊎_elim, arith}
 use Rattle.std.proofs.lemmas.Bool.{cases_eq}
 use Rattle.std.proofs.lemmas.List.{append-nil, length-append, get_or_append_left, get_or_push}
@@ -10,7 +10,7 @@ use Rattle.curve_cuts.specs.Cuts.{Cuts, IsCutGrid}
 use Rattle.curve_cuts.proofs.Cuts.{owner_is_one}
 use Rattle.spacetree.specs.declared.row.Row.{Row}
 use Rattle.field_report.specs.declared.traffic.Traffic.{Traffic}
-use Rattle.vertex_stacks.specs.declared.kind.Kind.TheVariants as kind
+use Rattle.vertex_stacks.specs.declared.kind.Kind.{Kind}
 use Rattle.vertex_stacks.specs.Notes.{Note}
 use Rattle.vertex_stacks.specs.Tales.{with_note}
 use Rattle.tree_automaton.specs.TreeLists.{TreeLists}
@@ -31,7 +31,7 @@ use Rattle.step_driver.proofs.Gives.{each_changes}
 use Rattle.step_driver.proofs.Counts.{note_plain}
 use Rattle.step_driver.proofs.Notes.{one_noted}
 
-module _ (k : Cuts) (parts : ℕ) (dir : Direction) (g : Spacetree) (f : States) (step : ℕ) where
+module _ (k : Cuts) (parts : ℕ) (dir : Direction) (g : Spacetree) (f : States) (step : ℕ) (kind : Kind) where
   -- rows of one tree more
   rows_more : (m : ℕ) (rows more : List Row) → IsCutGrid k g → ListsAll (IsRowOfFirst k g f m) rows → ListsAll (IsRowOf k g f m) more → ListsAll (IsRowOfFirst k g f (m + 1)) (rows ++ more)
   rows_more m rows more fits old new = record {
@@ -67,7 +67,7 @@ module _ (k : Cuts) (parts : ℕ) (dir : Direction) (g : Spacetree) (f : States)
   }
 
   -- to begin with nothing is gathered
-  pub none_shown : (old : List Note) → GatheredFirst k g f step 0 old old [] []
+  pub none_shown : (old : List Note) → GatheredFirst k g f step kind 0 old old [] []
   none_shown old = record {
     noted = sym (append-nil old);
     rows = record { once = tt; members = λ r. ((λ h. absurd h), (λ q. let below = q.1 in absurd (omega (arith, below)))) };
@@ -75,18 +75,18 @@ module _ (k : Cuts) (parts : ℕ) (dir : Direction) (g : Spacetree) (f : States)
   }
 
   abbrev mine : ℕ → Note
-  mine t = note_over (sizes_of k) step kind.Show g t
+  mine t = note_over (sizes_of k) step kind g t
 
   -- what one tree's sweep gives, by the tree's number
   record GivesShown (t : ℕ) (x y : TreeLists) (note : Note) (shown : ShownTree) : Type 0 where
-    pub tree : IsShownStore k parts dir g f step t x y
+    pub tree : IsShownStore k parts dir g f step kind t x y
     pub note_is : note ≡ mine t
     pub rows : ListsAll (IsRowOf k g f t) shown.rows.items
     pub traffic : IsTraffic k g t shown.traffic
 
-  gives_own : (x y : TreeLists) (note : Note) (shown : ShownTree) → IsCutGrid k g → IsShownTree k parts dir g f step x y note shown → GivesShown x.tree x y note shown
+  gives_own : (x y : TreeLists) (note : Note) (shown : ShownTree) → IsCutGrid k g → IsShownTree k parts dir g f step kind x y note shown → GivesShown x.tree x y note shown
   gives_own x y note shown fits h =
-      let noted : note ≡ mine x.tree = h.noted.counts ∙ note_plain k g dir kind.Show step x.tree fits in
+      let noted : note ≡ mine x.tree = h.noted.counts ∙ note_plain k g dir kind step x.tree fits in
       record {
         tree = record { number = h.tree; stands = h.stands; tale = h.noted.tale ∙ ap (with_note x.lanes.tale) noted };
         note_is = noted;
@@ -94,16 +94,16 @@ module _ (k : Cuts) (parts : ℕ) (dir : Direction) (g : Spacetree) (f : States)
         traffic = h.traffic;
       }
 
-  gives_at : (before : List TreeLists) (m : ℕ) (r : Swept ShownTree) → AllStandOn k parts dir g f before → m < k.trees → ShowsTree k step (store_of before m) r → GivesShown m (store_of before m) r.store r.note r.found
+  gives_at : (before : List TreeLists) (m : ℕ) (r : Swept ShownTree) → AllStandOn k parts dir g f before → m < k.trees → ShowsTree k step kind (store_of before m) r → GivesShown m (store_of before m) r.store r.note r.found
   gives_at before m r all below shows = subst (λ n. GivesShown n (store_of before m) r.store r.note r.found) (all.number m below) (gives_own (store_of before m) r.store r.note r.found all.grid (shows parts dir g f (all.each m below)))
 
   -- the stores of all trees
-  pub stores_shown : (before after : List TreeLists) (swept : List (Swept ShownTree)) → AllStandOn k parts dir g f before → EachGives (ShowsTree k step) before swept → after ≡ map (λ (r : Swept ShownTree). r.store) swept → ChangesEach (IsShownStore k parts dir g f step) k.trees before after
-  stores_shown before after swept all gives is = each_changes (ShowsTree k step) (IsShownStore k parts dir g f step) (λ (r : Swept ShownTree). r.store) k.trees before after swept all.count gives is (λ t r below shows. (gives_at before t r all below shows).tree)
+  pub stores_shown : (before after : List TreeLists) (swept : List (Swept ShownTree)) → AllStandOn k parts dir g f before → EachGives (ShowsTree k step kind) before swept → after ≡ map (λ (r : Swept ShownTree). r.store) swept → ChangesEach (IsShownStore k parts dir g f step kind) k.trees before after
+  stores_shown before after swept all gives is = each_changes (ShowsTree k step kind) (IsShownStore k parts dir g f step kind) (λ (r : Swept ShownTree). r.store) k.trees before after swept all.count gives is (λ t r below shows. (gives_at before t r all below shows).tree)
 
   -- and what one tree more shows
-  pub shown_more : (m : ℕ) (before : List TreeLists) (old notes : List Note) (rows : List Row) (traffic : List Traffic) (r : Swept ShownTree) → AllStandOn k parts dir g f before → m < k.trees → GatheredFirst k g f step m old notes rows traffic → ShowsTree k step (store_of before m) r →
-      GatheredFirst k g f step (m + 1) old (notes ++ r.note ∷ []) (rows ++ r.found.rows.items) (traffic ++ r.found.traffic ∷ [])
+  pub shown_more : (m : ℕ) (before : List TreeLists) (old notes : List Note) (rows : List Row) (traffic : List Traffic) (r : Swept ShownTree) → AllStandOn k parts dir g f before → m < k.trees → GatheredFirst k g f step kind m old notes rows traffic → ShowsTree k step kind (store_of before m) r →
+      GatheredFirst k g f step kind (m + 1) old (notes ++ r.note ∷ []) (rows ++ r.found.rows.items) (traffic ++ r.found.traffic ∷ [])
   shown_more m before old notes rows traffic r all below h shows =
       let gives = gives_at before m r all below shows in
       record {

@@ -1,4 +1,4 @@
--- The trees of a world as it starts.
+-- Trees as they start.
 use Rattle.std.proofs.Common.{◌≡◌, ℕ, ◌<◌, true, List, [], length, map, refl, ap, sym, subst, ◌∙◌, arith}
 use Rattle.std.specs.Prelude.{pos, Result, Ok, slice_index_or}
 use Rattle.std.proofs.lemmas.List.{get_or-map, length-map}
@@ -11,7 +11,7 @@ use Rattle.spacetree.specs.Fields.{HasLeaves}
 use Rattle.curve_cuts.specs.Cuts.{Cuts, IsCutGrid, range_of}
 use Rattle.vertex_stacks.specs.Lists.{nothing_moved}
 use Rattle.vertex_stacks.specs.Notes.{Note}
-use Rattle.vertex_stacks.specs.Tales.{TaleGrows, no_tale, with_note}
+use Rattle.vertex_stacks.specs.Tales.{no_tale, with_note}
 use Rattle.tree_automaton.specs.TreeLists.{TreeLists}
 use Rattle.step_phases.specs.declared.phase.Phase.TheVariants.{Opening}
 use Rattle.step_phases.specs.Sweeps.{IsRaised}
@@ -21,12 +21,11 @@ use Rattle.step_world.specs.Notes.{note_raised, by_trees}
 use Rattle.step_world.proofs.Worlds.{start_stands}
 use Rattle.step_driver.specs.declared.beside.Swept.{Swept}
 use Rattle.step_driver.specs.Stores.{no_store, store_of, AllMerged, AllHaveLists}
-use Rattle.step_driver.specs.Notes.{sizes_of, HaveTales}
+use Rattle.step_driver.specs.Notes.{sizes_of}
 use Rattle.step_driver.specs.Starts.{IsRaisedStore, IsRaisedWith, MayBeRaised, AreRaised, AreStarted}
 use Rattle.step_driver.proofs.Gives.{all_there, one_there, some_item}
 use Rattle.step_driver.proofs.Counts.{note_raising}
 use Rattle.step_driver.proofs.Exchanges.{lists_after, owners_taken, tale_stays}
-use Rattle.step_driver.proofs.Notes.{tales_grow}
 use Rattle.step_driver.proofs.Standing.{all_stand}
 
 -- a store as it is made
@@ -59,20 +58,20 @@ can_be_raised k g t s fits below is = subst (CanBeRaised k g) (sym is) (record {
 })
 
 -- and then stands as one that is raised
-pub raised_store : (k : Cuts) (g : Spacetree) (f : States) (t : ℕ) (s : TreeLists) (r : Swept Unit) → IsCutGrid k g → s ≡ new_store k.dim k.depth (range_of k t) t → IsRaisedTree k g f 0 s r.store r.note → IsRaisedWith k g f t r
-raised_store k g f t s r fits is h =
-    let raised : IsRaisedTree k g f 0 (new_store k.dim k.depth (range_of k t) t) r.store r.note = subst (λ z. IsRaisedTree k g f 0 z r.store r.note) is h in
-    let noted : r.note ≡ note_raised (sizes_of k) 0 g t = raised.noted.counts ∙ note_raising k g t fits in
+pub raised_store : (k : Cuts) (g : Spacetree) (f : States) (step t : ℕ) (s : TreeLists) (r : Swept Unit) → IsCutGrid k g → s ≡ new_store k.dim k.depth (range_of k t) t → IsRaisedTree k g f step s r.store r.note → IsRaisedWith k g f step t r
+raised_store k g f step t s r fits is h =
+    let raised : IsRaisedTree k g f step (new_store k.dim k.depth (range_of k t) t) r.store r.note = subst (λ z. IsRaisedTree k g f step z r.store r.note) is h in
+    let noted : r.note ≡ note_raised (sizes_of k) step g t = raised.noted.counts ∙ note_raising k g step t fits in
     record { store = record { lists = raised.lists; slots = raised.slots; tale = raised.noted.tale ∙ ap (with_note no_tale) noted }; noted = noted }
 
-module _ {E : Type 0} (k : Cuts) (g : Spacetree) (f : States) (given : List (Result (Swept Unit) E)) (swept : List (Swept Unit)) (may : MayBeRaised k g f given) (is : given ≡ map Ok swept) where
-  pub raised_at : (t : ℕ) (e : Swept Unit) → t < k.trees → IsRaisedWith k g f t (slice_index_or swept t e)
+module _ {E : Type 0} (k : Cuts) (g : Spacetree) (f : States) (step : ℕ) (given : List (Result (Swept Unit) E)) (swept : List (Swept Unit)) (may : MayBeRaised k g f step given) (is : given ≡ map Ok swept) where
+  pub raised_at : (t : ℕ) (e : Swept Unit) → t < k.trees → IsRaisedWith k g f step t (slice_index_or swept t e)
   raised_at t e below =
       let count = all_there given swept k.trees is may.count in
-      one_there (IsRaisedWith k g f t) given swept t e is (omega (arith, below, count)) (may.each t (Ok e) below)
+      one_there (IsRaisedWith k g f step t) given swept t e is (omega (arith, below, count)) (may.each t (Ok e) below)
 
   -- all trees are raised
-  pub all_raised : (stores : List TreeLists) (notes : List Note) → stores ≡ map (λ (r : Swept Unit). r.store) swept → notes ≡ by_trees k.trees (note_raised (sizes_of k) 0 g) → AreRaised k g f k.trees stores notes
+  pub all_raised : (stores : List TreeLists) (notes : List Note) → stores ≡ map (λ (r : Swept Unit). r.store) swept → notes ≡ by_trees k.trees (note_raised (sizes_of k) step g) → AreRaised k g f step k.trees stores notes
   all_raised stores notes are noted =
       let count = all_there given swept k.trees is may.count in
       record {
@@ -80,25 +79,22 @@ module _ {E : Type 0} (k : Cuts) (g : Spacetree) (f : States) (given : List (Res
         each = λ t below.
             let there : t < length swept = omega (arith, below, count) in
             let e = some_item swept t there in
-            subst (IsRaisedStore k g f t) (sym (ap (λ xs. store_of xs t) are ∙ get_or-map (λ (r : Swept Unit). r.store) swept t e no_store there)) (raised_at t e below).store;
+            subst (IsRaisedStore k g f step t) (sym (ap (λ xs. store_of xs t) are ∙ get_or-map (λ (r : Swept Unit). r.store) swept t e no_store there)) (raised_at t e below).store;
         noted = noted;
       }
 
-module _ (k : Cuts) (g : Spacetree) (f : States) (stores : List TreeLists) (notes : List Note) (fits : IsCutGrid k g) (field : HasLeaves g f) (grows : TaleGrows) (h : AreRaised k g f k.trees stores notes) where
+module _ (k : Cuts) (g : Spacetree) (f : States) (step : ℕ) (stores : List TreeLists) (notes : List Note) (fits : IsCutGrid k g) (field : HasLeaves g f) (h : AreRaised k g f step k.trees stores notes) where
   pub raised_lists : AllHaveLists k Backward g stores
   raised_lists = record { count = h.count; each = λ t below. (h.each t below).lists }
 
   each_raised : (t : ℕ) → IsRaised k g (value_of g f) t (copies_of (store_of stores) t)
   each_raised t v has = (h.each t has.corner.tree).slots v has
 
-  raised_tales : HaveTales k.trees stores notes
-  raised_tales = subst (HaveTales k.trees stores) (sym h.noted) (tales_grow (note_raised (sizes_of k) 0 g) (λ s. refl) grows k.trees [] stores [] (λ t below. sym grows.0) (λ t below. (h.each t below).tale))
-
   -- raised trees that exchanged
-  pub started : (after : List TreeLists) → AllMerged Opening k stores after → AreStarted k g f after notes
+  pub started : (after : List TreeLists) → AllMerged Opening k stores after → AreStarted k g f step after notes
   started after merged = record {
     stand = all_stand k Backward g f after (lists_after Opening k Backward g stores after raised_lists merged)
         (start_stands k g f (copies_of (store_of stores)) (copies_of (store_of after)) fits field each_raised (owners_taken Opening k Backward g stores after fits raised_lists merged));
-    tales = λ t below. tale_stays Opening k stores after t below merged ∙ raised_tales t below;
+    tales = λ t below. tale_stays Opening k stores after t below merged ∙ (h.each t below).tale;
     noted = h.noted;
   }

@@ -62,7 +62,7 @@ use Rattle.step_world.proofs.Parts.{new_states_are_field, step_keeps_parts}
 use Rattle.step_world.proofs.Worlds.{deep_grid, kept_grid_stays, step_stands, plain_step_stands}
 use Rattle.step_driver.specs.declared.finishing.Findings.{Findings}
 use Rattle.step_driver.specs.Stores.{store_of, AllHaveLists}
-use Rattle.step_driver.specs.Notes.{sizes_of, HaveTales}
+use Rattle.step_driver.specs.Notes.{notes_of, sizes_of, TellsSinceRaised, HaveTales}
 use Rattle.step_driver.specs.Computing.{AllStandOn}
 use Rattle.step_driver.specs.Finishing.{AllMarked, AreFinished}
 use Rattle.step_driver.specs.Adapting.{AllCanAdapt}
@@ -267,15 +267,15 @@ module _ (kernel : Kernel) (k : Cuts) (g : Spacetree) (f : States) (step : ℕ) 
     module _ (grows : TaleGrows) where
       swept_tales : HaveTales k.trees h.swept h.noted
       swept_tales = subst (HaveTales k.trees h.swept) (sym h.primary.told.noted)
-          (tales_grow (note_over (sizes_of k) step Primary g) (λ s. refl) grows k.trees before h.swept old at.tales (λ t below. (h.primary.trees.changed t below).tale))
+          (tales_grow (note_over (sizes_of k) step Primary g) (λ s. refl) grows (λ s e. absurd (omega (arith, e))) k.trees before h.swept old at.tales (λ t below. (h.primary.trees.changed t below).tale))
 
       finished_tales : HaveTales k.trees finished new
       finished_tales = subst (HaveTales k.trees finished) (sym done.counted.noted)
-          (tales_grow (note_over (sizes_of k) step Secondary g) (λ s. refl) grows k.trees h.marked finished h.noted
-          (λ t below. tale_stays First k h.swept h.marked t below h.first ∙ swept_tales t below) (λ t below. (done.trees.changed t below).tale))
+          (tales_grow (note_over (sizes_of k) step Secondary g) (λ s. refl) grows (λ s e. absurd (omega (arith, e))) k.trees h.marked finished h.noted
+          (λ t below. subst (TellsSinceRaised (notes_of t h.noted)) (sym (tale_stays First k h.swept h.marked t below h.first)) (swept_tales t below)) (λ t below. (done.trees.changed t below).tale))
 
       tales : HaveTales k.trees after new
-      tales t below = tale_stays Second k settled.added after t below settled.second ∙ added_tale k partials finished settled.added settled.sums t below ∙ finished_tales t below
+      tales t below = subst (TellsSinceRaised (notes_of t new)) (sym (tale_stays Second k settled.added after t below settled.second ∙ added_tale k partials finished settled.added settled.sums t below)) (finished_tales t below)
 
       -- without a criterion the trees are at the next field then
       pub took_plain : KeepsAll kernel.marked → (size : ℕ) → size ≡ cells_of later → cells_of later ≤ 200000 → TookStep kernel false k g f step after old new size
@@ -339,7 +339,7 @@ module _ (kernel : Kernel) (k : Cuts) (g : Spacetree) (f : States) (step : ℕ) 
 
       adapted_tales : HaveTales k.trees a.adapted noted
       adapted_tales = subst (HaveTales k.trees a.adapted) (sym a.sweeps.noted)
-          (tales_grow (note_adapted (sizes_of k) step g later) (λ s. refl) grows k.trees after a.adapted new (tales grows) (λ t below. (a.sweeps.trees.changed t below).tale))
+          (tales_grow (note_adapted (sizes_of k) step g later) (λ s. refl) grows (λ s e. absurd (omega (arith, e))) k.trees after a.adapted new (tales grows) (λ t below. (a.sweeps.trees.changed t below).tale))
 
       -- and are at the next grid and field then
       pub took_adapting : RefinesAbove kernel.marked k.depth → (size : ℕ) → size ≡ cells_of later → cells_of later ≤ 200000 → TookStep kernel true k g f step last old noted size
@@ -353,7 +353,7 @@ module _ (kernel : Kernel) (k : Cuts) (g : Spacetree) (f : States) (step : ℕ) 
           field = step_keeps_parts kernel.parts kernel.updated kernel.marked g f later field (deep_grid k g at.fits) at.field parts is;
           dir = turned_round dir;
           stand = all_stand k (turned_round dir) later field last (lists_after Third k (turned_round dir) later a.adapted last new_lists a.third) (last_stand deep);
-          tales = λ t below. tale_stays Third k a.adapted last t below a.third ∙ adapted_tales t below;
+          tales = λ t below. subst (TellsSinceRaised (notes_of t noted)) (sym (tale_stays Third k a.adapted last t below a.third)) (adapted_tales t below);
           counted = counted;
           room = room;
         };

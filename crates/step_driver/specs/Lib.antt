@@ -15,5 +15,6 @@ pub mod Sizes
 pub mod Refusing
 pub mod Summing
 pub mod Stepping
-pub mod Advances
 pub mod Showing
+pub mod Recutting
+pub mod Advances

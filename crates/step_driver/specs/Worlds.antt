@@ -1,5 +1,5 @@
 -- What contracts see of a world, and the grid and the field that it is at.
-use Rattle.std.specs.Prelude.{◌≡◌, ℕ, ◌≤◌, Bool, true, List}
+use Rattle.std.specs.Prelude.{◌≡◌, ℕ, ◌≤◌, Bool, true, List, Option}
 use Rattle.peano_keys.specs.Grid.{Spacetree}
 use Rattle.peano_keys.specs.Field.{States}
 use Rattle.peano_curve.specs.declared.order.Direction.{Direction}
@@ -15,9 +15,10 @@ use Rattle.step_world.specs.Worlds.{StandFor}
 use Rattle.step_driver.specs.Stores.{AllStandFor, store_of}
 use Rattle.step_driver.specs.Notes.{HaveTales}
 
--- a world: its solver, the keys and the stores of its trees, how many cells its grid has, its step, the notes of all sweeps, and whether it is live
+-- a world: its solver, after how many steps its trees are cut anew, if they are, the keys and the stores of its trees, how many cells its grid has, its step, the notes of all sweeps, and whether it is live
 pub record Seen (S : Type 0) : Type 0 where
   pub solver : S
+  pub recut : Option ℕ
   pub keys : CutPoints
   pub stores : List TreeLists
   pub cells : ℕ
@@ -26,7 +27,7 @@ pub record Seen (S : Type 0) : Type 0 where
   pub live : Bool
 
 -- The trees of some cuts, at most 64, are at a grid and a field whose states have so many values: the store of each tree stands for them, in what lies in it and in what
--- each slot says, and all are read in one direction; the tale of each is that of its tree's notes; and the grid has so many cells, at most 200,000.
+-- each slot says, and all are read in one direction; the tale of each is that of its tree's notes since it was raised; and the grid has so many cells, at most 200,000.
 pub record AreAt (parts : ℕ) (k : Cuts) (stores : List TreeLists) (notes : List Note) (cells : ℕ)
     (g : Spacetree) (f : States) : Type 0 where
   pub few : k.trees ≤ 64

@@ -1,7 +1,7 @@
 //! Laws of worlds.
 ghost use Rattle.step_driver.specs.Worlds.{WorldIsAtOne, WorldStands};
 ghost use Rattle.step_driver.specs.Showing.{OneTraffic, TrafficExists};
-ghost use Rattle.step_driver.specs.Starts.{FirstKeysExist};
+ghost use Rattle.step_driver.specs.Starts.{EqualKeysExist};
 
 use solver_api::Solver;
 
@@ -26,6 +26,6 @@ pub fn traffic_exists()
 {}
 
 /// There are keys to start with for each grid.
-pub fn first_keys_exist()
-    ensures { FirstKeysExist }
+pub fn equal_keys_exist()
+    ensures { EqualKeysExist }
 {}

@@ -11,6 +11,7 @@ mod finishing;
 mod keys;
 pub mod laws;
 mod raising;
+mod recutting;
 mod refusing;
 mod showing;
 mod size;

@@ -1,4 +1,4 @@
-//! The trees of a world as it starts: raised one beside another, then exchanged.
+//! Trees as they start: raised one beside another, then exchanged.
 ghost use Rattle.std.specs.Prelude.{◌≡◌, ◌<◌, ℕ, IfOk};
 ghost use Rattle.curve_cuts.specs.Cuts.{IsCutGrid};
 ghost use Rattle.curve_cuts.specs.Keys.{cuts_of};
@@ -16,9 +16,8 @@ use std::thread::Threads;
 use step_phases::Phase;
 use tree_automaton::TreeStore;
 use vertex_stacks::SweepNote;
-use vertex_stacks::laws::tale_of_notes_grows;
 
-/// The stores of all trees, by number, and the notes of all their sweeps.
+/// The stores of all trees, by number, and notes of their sweeps.
 #[derive(Drop)]
 pub(crate) struct Forest {
     pub(crate) stores: Vec<TreeStore>,
@@ -31,15 +30,16 @@ fn raise_one(
     grid: &Grid,
     field: &Field,
     keys: &Keys,
+    step: u32,
     tree: u32,
 ) -> Result<Swept<()>, AllocError>
     requires grid { IsCutGrid (cuts_of keys.now) grid.now }
     requires field { (parts : ℕ) × IsFieldOn parts grid.now field.now }
     requires tree { tree < (cuts_of keys.now).trees }
-    ensures { IfOk result (IsRaisedWith (cuts_of keys.now) grid.now field.now tree) }
+    ensures { IfOk result (IsRaisedWith (cuts_of keys.now) grid.now field.now step tree) }
 {
     let mut store = TreeStore::new(alloc, keys.dim(), keys.depth(), keys.range(tree), tree);
-    let note = raise_tree(&mut store, grid, field, keys, 0)?;
+    let note = raise_tree(&mut store, grid, field, keys, step)?;
     Ok(Swept {
         store,
         note,
@@ -54,10 +54,12 @@ fn raise_each<R: Threads + Sync>(
     grid: &Grid,
     field: &Field,
     keys: &Keys,
+    step: u32,
 ) -> Result<Vec<Result<Swept<()>, AllocError>>, AllocError>
     requires grid { IsCutGrid (cuts_of keys.now) grid.now }
     requires field { (parts : ℕ) × IsFieldOn parts grid.now field.now }
-    ensures { IfOk result (λ given. MayBeRaised (cuts_of keys.now) grid.now field.now given.items) }
+    ensures { IfOk result
+        (λ given. MayBeRaised (cuts_of keys.now) grid.now field.now step given.items) }
 {
     thread::map_indices(
         rt,
@@ -68,8 +70,8 @@ fn raise_each<R: Threads + Sync>(
                 × ((parts : ℕ) × IsFieldOn parts grid.now field.now)
                 × (t < (cuts_of keys.now).trees) × (t < 4294967296) }
             ensures { IfOk result
-                (IsRaisedWith (cuts_of keys.entry.now) grid.entry.now field.entry.now t) }
-        { raise_one(alloc, grid, field, keys, t as u32) },
+                (IsRaisedWith (cuts_of keys.entry.now) grid.entry.now field.entry.now step t) }
+        { raise_one(alloc, grid, field, keys, step, t as u32) },
     )
 }
 
@@ -80,14 +82,15 @@ fn raise_all<R: Threads + Sync>(
     grid: &Grid,
     field: &Field,
     keys: &Keys,
+    step: u32,
 ) -> Result<Forest, AllocError>
     requires grid { IsCutGrid (cuts_of keys.now) grid.now }
     requires field { (parts : ℕ) × IsFieldOn parts grid.now field.now }
     ensures { IfOk result
-        (λ forest. AreRaised (cuts_of keys.now) grid.now field.now
+        (λ forest. AreRaised (cuts_of keys.now) grid.now field.now step
         (cuts_of keys.now).trees forest.stores.items forest.notes.items) }
 {
-    let swept = all_of(alloc, raise_each(rt, alloc, grid, field, keys)?)?;
+    let swept = all_of(alloc, raise_each(rt, alloc, grid, field, keys, step)?)?;
     let mut notes = Vec::new(alloc);
     for tree in &swept {
         notes.push(tree.note)?;
@@ -96,22 +99,22 @@ fn raise_all<R: Threads + Sync>(
     Ok(Forest { stores, notes })
 }
 
-/// The trees of some keys over a grid and its field: raised, then exchanged. May want memory alone.
+/// The trees of some keys over a grid and its field after so many steps: raised, then exchanged. May want memory alone.
 pub(crate) fn plant<R: Threads + Sync>(
     rt: &R,
     alloc: Global,
     grid: &Grid,
     field: &Field,
     keys: &Keys,
+    step: u32,
 ) -> Result<Forest, AllocError>
     requires grid { IsCutGrid (cuts_of keys.now) grid.now }
     requires field { (parts : ℕ) × IsFieldOn parts grid.now field.now }
     ensures { IfOk result
         (λ forest. AreStarted
-        (cuts_of keys.now) grid.now field.now forest.stores.items forest.notes.items) }
+        (cuts_of keys.now) grid.now field.now step forest.stores.items forest.notes.items) }
 {
-    tale_of_notes_grows();
-    let raised = raise_all(rt, alloc, grid, field, keys)?;
+    let raised = raise_all(rt, alloc, grid, field, keys, step)?;
     let stores = exchange(rt, alloc, raised.stores, keys, Phase::Opening)?;
     Ok(Forest {
         stores,

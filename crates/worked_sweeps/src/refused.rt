@@ -9,6 +9,7 @@ use crate::trees::{counts, expect_cut, keys_of, raise};
 use peano_keys::Dim;
 use std::alloc::{AllocError, Global};
 use std::process::Abort;
+use vertex_stacks::Kind;
 
 // What was refused a request: a sweep, or what is there before it.
 #[derive(Clone, Copy, Debug)]
@@ -66,7 +67,16 @@ fn show_raised(rt: &impl Abort, alloc: Global, dim: Dim, traffic: [u64; 6]) -> R
     let Ok((mut store, _)) = raise(rt, alloc, &grid, &field, &keys, 0) else {
         return Err(Refused::Raising);
     };
-    match show_rows(rt, alloc, &mut store, &grid, &field, &keys, traffic) {
+    match show_rows(
+        rt,
+        alloc,
+        &mut store,
+        &grid,
+        &field,
+        &keys,
+        Kind::Show,
+        traffic,
+    ) {
         Ok(_) => Ok(()),
         Err(_) => Err(Refused::Showing),
     }

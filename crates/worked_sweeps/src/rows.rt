@@ -1,7 +1,8 @@
-//! Showing sweeps of a tree that has all: its rows, and its traffic.
+//! Sweeps that show a tree that has all, or gather its rows before the trees are cut anew: its rows, and its traffic.
 ghost use Rattle.std.specs.Prelude.{◌≡◌};
 ghost use Rattle.curve_cuts.specs.Cuts.{IsCutGrid, range_of};
 ghost use Rattle.curve_cuts.specs.Keys.{cuts_of};
+ghost use Rattle.showing_sweep.specs.Sweeps.{IsGathering};
 ghost use Rattle.spacetree.specs.Fields.{IsFieldOn};
 ghost use Rattle.tree_automaton.specs.AtRest.{StandsFor};
 
@@ -31,13 +32,14 @@ const NINE: [(u32, u32, i64); 9] = [
     (0, 0, 100),
 ];
 
-// Shows a store that stands for a grid and a field.
+// Shows a store that stands for a grid and a field, or gathers its rows.
 fn show(
     alloc: Global,
     store: &mut TreeStore,
     _grid: &Grid,
     _field: &Field,
     keys: &Keys,
+    kind: Kind,
 ) -> Result<(SweepNote, Shown), AllocError>
     requires cut { IsCutGrid (cuts_of keys.now) _grid.now }
     requires depth { keys.now.depth ≡ 2 }
@@ -45,8 +47,9 @@ fn show(
     requires field { IsFieldOn 1 _grid.now _field.now }
     requires stands { StandsFor 2
         (range_of (cuts_of keys.now) 0) 0 store.old.dir _grid.now _field.now store.old }
+    requires kind { IsGathering kind }
 {
-    show_tree(alloc, store, keys, 1)
+    show_tree(alloc, store, keys, 1, kind)
 }
 
 // Rows are those of a list, in its order.
@@ -81,7 +84,7 @@ fn traffic_of([cells, stored, pushes, hanging, enclave, skeleton]: [u64; 6]) -> 
     }
 }
 
-// Shows a tree that has all, and compares its rows, its traffic and its note.
+// Shows a tree that has all, or gathers its rows, and compares its rows, its traffic and its note.
 pub(crate) fn show_rows(
     rt: &impl Abort,
     alloc: Global,
@@ -89,6 +92,7 @@ pub(crate) fn show_rows(
     grid: &Grid,
     field: &Field,
     keys: &Keys,
+    kind: Kind,
     want: [u64; 6],
 ) -> Result<Vec<Row>, AllocError>
     requires cut { IsCutGrid (cuts_of keys.now) grid.now }
@@ -97,9 +101,10 @@ pub(crate) fn show_rows(
     requires field { IsFieldOn 1 grid.now field.now }
     requires stands { StandsFor 2
         (range_of (cuts_of keys.now) 0) 0 store.old.dir grid.now field.now store.old }
+    requires kind { IsGathering kind }
 {
     let before = store.tale();
-    let (note, shown) = match show(alloc, store, grid, field, keys) {
+    let (note, shown) = match show(alloc, store, grid, field, keys, kind) {
         Ok(shown) => shown,
         Err(refused) => {
             expect_refused(rt, store, &before);
@@ -107,7 +112,7 @@ pub(crate) fn show_rows(
         }
     };
     assert_eq!(rt; shown.traffic, traffic_of(want));
-    assert!(rt; matches!(note.kind(), Kind::Show));
+    assert_eq!(rt; note.kind(), kind);
     assert_eq!(rt;
         [note.taken(), note.put(), note.pushed()],
         [want[1], want[1], want[2]]
@@ -116,14 +121,17 @@ pub(crate) fn show_rows(
     Ok(shown.rows)
 }
 
-// Raises a tree that has all, and shows it.
+// Raises a tree that has all, and shows it, or gathers its rows.
 fn compare_rows(
     rt: &impl Abort,
     alloc: Global,
     dim: Dim,
     centre: bool,
+    kind: Kind,
     want: [u64; 6],
-) -> Result<Vec<Row>, AllocError> {
+) -> Result<Vec<Row>, AllocError>
+    requires { IsGathering kind }
+{
     let Ok(grid) = opened(alloc, dim, 1, centre) else {
         return Err(AllocError);
     };
@@ -132,17 +140,22 @@ fn compare_rows(
     expect_one(rt, &keys);
     expect_cut(rt, &grid, &keys);
     let (mut store, _) = raise(rt, alloc, &grid, &field, &keys, 0)?;
-    show_rows(rt, alloc, &mut store, &grid, &field, &keys, want)
+    show_rows(rt, alloc, &mut store, &grid, &field, &keys, kind, want)
 }
 
-// The traffic of nine leaves, of the refined centre, and of the same in space.
+// The traffic of nine leaves, of the refined centre, shown and gathered before a cut, and of both in space.
 #[test]
 fn a_raised_tree_has_rows_and_traffic(rt: HostRuntime) -> Result<(), AllocError> {
     let alloc = rt.alloc();
-    let rows = compare_rows(&rt, alloc, Dim::Two, false, [10, 20, 20, 0, 9, 0])?;
+    let nine = [10, 20, 20, 0, 9, 0];
+    let rows = compare_rows(&rt, alloc, Dim::Two, false, Kind::Show, nine)?;
     expect_nine(&rt, &rows);
-    compare_rows(&rt, alloc, Dim::Two, true, [19, 24, 32, 20, 1, 16])?;
-    compare_rows(&rt, alloc, Dim::Three, false, [28, 72, 152, 0, 27, 0])?;
-    compare_rows(&rt, alloc, Dim::Three, true, [55, 80, 208, 152, 1, 52])?;
+    let refined = [19, 24, 32, 20, 1, 16];
+    compare_rows(&rt, alloc, Dim::Two, true, Kind::Show, refined)?;
+    compare_rows(&rt, alloc, Dim::Two, true, Kind::Recut, refined)?;
+    let cubes = [28, 72, 152, 0, 27, 0];
+    compare_rows(&rt, alloc, Dim::Three, false, Kind::Show, cubes)?;
+    let refined_cube = [55, 80, 208, 152, 1, 52];
+    compare_rows(&rt, alloc, Dim::Three, true, Kind::Show, refined_cube)?;
     Ok(())
 }

@@ -2,11 +2,15 @@
 ghost use Rattle.std.specs.Prelude.{◌<◌, ◌≤◌};
 
 use crate::beside::{compare, compare_last};
+use crate::files::with_recuts;
 use spacetree::EvalFault;
 use std::alloc::{AllocError, Global};
 
 // How many files are drawn.
 const FILES: u32 = 12;
+
+// How many of them with trees that are cut anew.
+const RECUT_FILES: u32 = 8;
 
 const TREES: [u32; 4] = [1, 2, 5, 64];
 
@@ -198,5 +202,28 @@ fn worlds_of_drawn_files_are_where_the_evaluation_is(rt: HostRuntime) -> Result<
     }
     assert!(rt; changed >= 3, "{changed} changed");
     assert!(rt; refused >= 1, "{refused} refused");
+    Ok(())
+}
+
+// Trees that are cut anew after every so many steps change no field and no refusal.
+#[test]
+fn drawn_worlds_that_are_cut_anew_are_where_the_evaluation_is(
+    rt: HostRuntime,
+) -> Result<(), AllocError> {
+    let alloc = rt.alloc();
+    let mut seed = 11;
+    let mut changed: u32 = 0;
+    for _ in 0..RECUT_FILES {
+        let every = 1 + drawn(&mut seed, 3);
+        let plain = drawn_file(alloc, &mut seed)?;
+        let file = with_recuts(alloc, plain.as_str(), Some(every))?;
+        match compare(&rt, alloc, file.as_str(), &[2, 7], &[0]) {
+            Ok((first, last)) if first == last => {}
+            Ok(_) => changed = changed.saturating_add(1),
+            Err(EvalFault::NoMemory) => return Err(AllocError),
+            Err(_) => {}
+        }
+    }
+    assert!(rt; changed >= 3, "{changed} changed");
     Ok(())
 }

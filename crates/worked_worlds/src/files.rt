@@ -1,4 +1,17 @@
 //! The worked files.
+use std::alloc::{AllocError, Global};
+
+// A file of the first version, or the same in the second, with trees that are cut anew after every so many steps.
+pub(crate) fn with_recuts(
+    alloc: Global,
+    file: &str,
+    recut: Option<u32>,
+) -> Result<String, AllocError> {
+    match recut {
+        Some(every) => format!(in alloc; "version = 2\nrecut_every = {every}\n{file}"),
+        None => String::from_str(alloc, file),
+    }
+}
 
 // The root alone.
 pub(crate) const SINGLE_CELL: &str =
@@ -44,6 +57,10 @@ pub(crate) const TWO_REFINED: &str =
 pub(crate) const INFLOW: &str =
     "dim = 2\ndepth = 2\nbase = 1\nsolver = 'advect'\nwind = [1, 0]\nb = 3\nedge = 'fixed'\nedge_value = [100]\nsteps = 2\nprint_every = 1\n[criterion]\nhi = 50\nlo = 1\n[[refine]]\nlevel = 1\nfrom = [1, 1]\nto = [2, 2]\nuntil = 2\n";
 
+// The same inflow, by trees that are cut anew after each step.
+pub(crate) const INFLOW_RECUT: &str =
+    "version = 2\nrecut_every = 1\ndim = 2\ndepth = 2\nbase = 1\nsolver = 'advect'\nwind = [1, 0]\nb = 3\nedge = 'fixed'\nedge_value = [100]\nsteps = 2\nprint_every = 1\n[criterion]\nhi = 50\nlo = 1\n[[refine]]\nlevel = 1\nfrom = [1, 1]\nto = [2, 2]\nuntil = 2\n";
+
 // One child is kept, and so its siblings are.
 pub(crate) const KEPT_CHILD: &str =
     "dim = 2\ndepth = 2\nbase = 1\nsolver = 'diffuse'\na = 0\nb = 1\nsteps = 1\n[criterion]\nhi = 1000\nlo = 5\n[[refine]]\nlevel = 1\nfrom = [0, 1]\nto = [2, 2]\nuntil = 2\n[[fill]]\nlevel = 2\nfrom = [2, 3]\nto = [3, 4]\nvalue = [7]\n";
@@ -67,6 +84,14 @@ pub(crate) const MEANS: &str =
 // A chain of refined cells down to level 8, on both sides of whose tip the values differ.
 pub(crate) const DEEP: &str =
     "dim = 2\ndepth = 8\nbase = 0\nsolver = 'diffuse'\na = 1\nb = 9000000\nsteps = 3\n[[refine]]\nlevel = 8\nfrom = [3280, 3280]\nto = [3281, 3281]\nuntil = 8\n[[fill]]\nlevel = 7\nfrom = [1093, 1093]\nto = [1094, 1094]\nvalue = [1000000]\n";
+
+// The middle cell of each level down to level 12, whose field is flat.
+pub(crate) const DEEP_CORNER: &str =
+    "version = 2\ndim = 2\ndepth = 12\nbase = 0\nsolver = 'diffuse'\na = 0\nb = 1\nsteps = 0\n[[fill]]\nlevel = 0\nfrom = [0, 0]\nto = [1, 1]\nvalue = [5]\n[[refine]]\nlevel = 12\nfrom = [265720, 265720]\nto = [265721, 265721]\nuntil = 12\n";
+
+// The same cells with a peak at level 12, which fades; from the second step on cells merge, and trees are cut anew.
+pub(crate) const DEEP_FADING: &str =
+    "version = 2\nrecut_every = 1\ndim = 2\ndepth = 12\nbase = 0\nsolver = 'diffuse'\na = 1\nb = 1412147682405\nsteps = 4\n[criterion]\nhi = 1000000\nlo = 100\n[[fill]]\nlevel = 12\nfrom = [265720, 265720]\nto = [265721, 265721]\nvalue = [200]\n[[refine]]\nlevel = 12\nfrom = [265720, 265720]\nto = [265721, 265721]\nuntil = 12\n";
 
 // Four leaves and the centre leave the range of values.
 pub(crate) const OVERFLOWS: &str =

@@ -49,7 +49,7 @@ pub(crate) fn opened<R: Abort + Threads + Sync>(
     Ok((grid, field))
 }
 
-// A world of so many trees at the opening of a plan.
+// A world of so many trees at the opening of a plan, which are cut anew where the plan says so.
 pub(crate) fn started<R: Abort + Threads + Sync>(
     rt: &R,
     alloc: Global,
@@ -63,7 +63,16 @@ pub(crate) fn started<R: Abort + Threads + Sync>(
     requires field { IsFieldOn (parts_in plan.now.solver) grid.now field.now }
 {
     assert!(rt; 1 <= trees && trees <= 64);
-    World::start(rt, alloc, plan.shape.depth, grid, field, plan.solver, trees)
+    World::start(
+        rt,
+        alloc,
+        plan.shape.depth,
+        grid,
+        field,
+        plan.solver,
+        trees,
+        plan.recut_every,
+    )
 }
 
 // A world, and how many helpers it takes its steps with.

@@ -4,7 +4,7 @@ ghost use Rattle.grid_file.specs.Valid.{IsPlan};
 use crate::beside::advance;
 use crate::files::*;
 use crate::opening::{opened, plan_of, started};
-use field_report::{field_text, traffic_text};
+use field_report::{Traffic, field_text, traffic_text};
 use grid_file::{Plan, is_printed};
 use peano_keys::Dim;
 use spacetree::EvalFault;
@@ -47,6 +47,38 @@ const INFLOW_NOTES: [Counted; 20] = [
     (2, Kind::Adapt, 1, [15, 36, 38]),
     (2, Kind::Show, 0, [68, 68, 104]),
     (2, Kind::Show, 1, [36, 36, 38]),
+];
+
+// The same by trees that are cut anew after each step: each is swept once more, and raised.
+const INFLOW_RECUT_NOTES: [Counted; 28] = [
+    (0, Kind::Raise, 0, [0, 18, 12]),
+    (0, Kind::Raise, 1, [0, 19, 15]),
+    (0, Kind::Show, 0, [18, 18, 12]),
+    (0, Kind::Show, 1, [19, 19, 15]),
+    (1, Kind::Primary, 0, [18, 18, 12]),
+    (1, Kind::Primary, 1, [19, 19, 15]),
+    (1, Kind::Secondary, 0, [18, 18, 12]),
+    (1, Kind::Secondary, 1, [19, 19, 15]),
+    (1, Kind::Adapt, 0, [18, 15, 12]),
+    (1, Kind::Adapt, 1, [19, 15, 15]),
+    (1, Kind::Recut, 0, [15, 15, 9]),
+    (1, Kind::Recut, 1, [15, 15, 9]),
+    (1, Kind::Raise, 0, [0, 14, 6]),
+    (1, Kind::Raise, 1, [0, 15, 9]),
+    (1, Kind::Show, 0, [14, 14, 6]),
+    (1, Kind::Show, 1, [15, 15, 9]),
+    (2, Kind::Primary, 0, [14, 14, 6]),
+    (2, Kind::Primary, 1, [15, 15, 9]),
+    (2, Kind::Secondary, 0, [14, 14, 6]),
+    (2, Kind::Secondary, 1, [15, 15, 9]),
+    (2, Kind::Adapt, 0, [14, 62, 96]),
+    (2, Kind::Adapt, 1, [15, 36, 48]),
+    (2, Kind::Recut, 0, [62, 62, 96]),
+    (2, Kind::Recut, 1, [36, 36, 48]),
+    (2, Kind::Raise, 0, [0, 56, 76]),
+    (2, Kind::Raise, 1, [0, 45, 69]),
+    (2, Kind::Show, 0, [56, 56, 76]),
+    (2, Kind::Show, 1, [45, 45, 69]),
 ];
 
 const CENTRE_NOTES: [Counted; 2] = [
@@ -120,7 +152,7 @@ fn report_of<R: Abort + Threads + Sync>(
 // A name, a file, so many trees, what is shown, and the report.
 type Reported = (&'static str, &'static str, u32, Shows, &'static str);
 
-const REPORTS: [Reported; 8] = [
+const REPORTS: [Reported; 9] = [
     (
         "space",
         SPACE,
@@ -162,6 +194,13 @@ const REPORTS: [Reported; 8] = [
         2,
         Shows::Traffic,
         "traffic 0 trees 2\ntree 0 cells 10 stored 18 pushes 12 hanging 10 enclave 0 skeleton 8 sent 13\ntree 1 cells 11 stored 19 pushes 15 hanging 10 enclave 0 skeleton 9 sent 13\ntraffic 1 trees 2\ntree 0 cells 6 stored 15 pushes 9 hanging 0 enclave 0 skeleton 4 sent 10\ntree 1 cells 6 stored 15 pushes 9 hanging 0 enclave 0 skeleton 5 sent 10\ntraffic 2 trees 2\ntree 0 cells 46 stored 68 pushes 104 hanging 12 enclave 24 skeleton 16 sent 24\ntree 1 cells 20 stored 36 pushes 38 hanging 6 enclave 2 skeleton 15 sent 24\n",
+    ),
+    (
+        "inflow, cut anew",
+        INFLOW_RECUT,
+        2,
+        Shows::Traffic,
+        "traffic 0 trees 2\ntree 0 cells 10 stored 18 pushes 12 hanging 10 enclave 0 skeleton 8 sent 13\ntree 1 cells 11 stored 19 pushes 15 hanging 10 enclave 0 skeleton 9 sent 13\ntraffic 1 trees 2\ntree 0 cells 5 stored 14 pushes 6 hanging 0 enclave 0 skeleton 4 sent 9\ntree 1 cells 6 stored 15 pushes 9 hanging 0 enclave 1 skeleton 4 sent 9\ntraffic 2 trees 2\ntree 0 cells 33 stored 56 pushes 76 hanging 0 enclave 18 skeleton 10 sent 21\ntree 1 cells 33 stored 45 pushes 69 hanging 18 enclave 7 skeleton 22 sent 21\n",
     ),
     (
         "single cell",
@@ -214,9 +253,10 @@ fn expect_notes<R: Abort + Threads + Sync>(
 #[test]
 fn worlds_note_their_sweeps(rt: HostRuntime) -> Result<(), EvalFault> {
     let alloc = rt.alloc();
-    let table: [(&str, &str, u32, &[Counted]); 3] = [
+    let table: [(&str, &str, u32, &[Counted]); 4] = [
         ("refined centre", REFINED_CENTRE, 1, &CENTRE_NOTES),
         ("inflow", INFLOW, 2, &INFLOW_NOTES),
+        ("inflow, cut anew", INFLOW_RECUT, 2, &INFLOW_RECUT_NOTES),
         ("overflows", OVERFLOWS, 2, &OVERFLOW_NOTES),
     ];
     for (name, file, trees, want) in table {
@@ -230,21 +270,56 @@ fn worlds_note_their_sweeps(rt: HostRuntime) -> Result<(), EvalFault> {
 }
 
 // How many notes there are of a file by so many trees: for each tree a raising sweep, one more for each step that is
-// shown, and for each step two or, where the grid may change, three.
+// shown, for each step two or, where the grid may change, three, and for each step after which trees are cut anew two more.
 #[test]
 fn each_tree_notes_its_sweeps(rt: HostRuntime) -> Result<(), EvalFault> {
     let alloc = rt.alloc();
-    let table: [(&str, &str, u32, usize); 4] = [
-        ("single cell", SINGLE_CELL, 3, 6),
-        ("two refined", TWO_REFINED, 2, 12),
-        ("wave", WAVE, 7, 56),
-        ("inflow", INFLOW, 64, 640),
+    let table: [(&str, &str, Option<u32>, u32, usize); 8] = [
+        ("single cell", SINGLE_CELL, None, 3, 6),
+        ("single cell, cut anew", SINGLE_CELL, Some(1), 3, 6),
+        ("two refined", TWO_REFINED, None, 2, 12),
+        ("two refined, cut too late", TWO_REFINED, Some(3), 2, 12),
+        ("wave", WAVE, None, 7, 56),
+        ("wave, cut anew at last", WAVE, Some(2), 7, 70),
+        ("inflow", INFLOW, None, 64, 640),
+        ("inflow, cut anew", INFLOW, Some(1), 64, 896),
     ];
-    for (name, file, trees, want) in table {
-        let plan = plan_of(&rt, alloc, file)?;
+    for (name, file, recut, trees, want) in table {
+        let file = with_recuts(alloc, file, recut)?;
+        let plan = plan_of(&rt, alloc, file.as_str())?;
         let mut world = world_of(&rt, alloc, &plan, trees)?;
         report_of(&rt, alloc, &plan, &mut world, Shows::Traffic)?;
         assert_eq!(rt; world.notes().len(), want, "{name}");
+    }
+    Ok(())
+}
+
+// How many leaves each of several trees owns, the fewest and the most.
+fn least_and_most(traffic: &[Traffic]) -> (u64, u64) {
+    let owned = traffic
+        .iter()
+        .map(|tree| tree.enclave.saturating_add(tree.skeleton));
+    owned.fold((u64::MAX, 0), |(least, most), count| {
+        (least.min(count), most.max(count))
+    })
+}
+
+// Trees that were cut anew after the last step own equal shares of its leaves.
+#[test]
+fn trees_that_are_cut_anew_own_equal_shares(rt: HostRuntime) -> Result<(), EvalFault> {
+    let alloc = rt.alloc();
+    for file in [INFLOW_RECUT, DEEP_FADING] {
+        for trees in [2, 3, 7] {
+            let plan = plan_of(&rt, alloc, file)?;
+            let mut world = world_of(&rt, alloc, &plan, trees)?;
+            for _ in 0..plan.steps {
+                advance(&rt, alloc, &mut world, 0)?;
+            }
+            assert!(rt; world.is_live());
+            let shown = world.show(&rt, alloc)?;
+            let (least, most) = least_and_most(shown.traffic.as_slice());
+            assert!(rt; least <= most && most - least <= 1, "{trees} trees");
+        }
     }
     Ok(())
 }

@@ -42,30 +42,61 @@ const WORKED: [(&str, &str, u64, u64); 17] = [
     ("means", MEANS, 33, 41),
 ];
 
-// Worlds of so many trees and with so many helpers are where the evaluation of each worked file is.
-fn expect_worked<R: Abort + Threads + Sync>(rt: &R, alloc: Global, trees: &[u32], workers: &[u32]) {
+// Files that only the second version can say.
+const OF_SECOND_VERSION: [(&str, &str, u64, u64); 3] = [
+    ("inflow, cut anew", INFLOW_RECUT, 17, 57),
+    ("deep corner", DEEP_CORNER, 97, 97),
+    ("deep corner that fades, cut anew", DEEP_FADING, 97, 73),
+];
+
+// Worlds of so many trees and with so many helpers are where the evaluation of each worked file is, where the trees are cut
+// anew after every so many steps and where they never are.
+fn expect_worked<R: Abort + Threads + Sync>(
+    rt: &R,
+    alloc: Global,
+    recut: Option<u32>,
+    trees: &[u32],
+    workers: &[u32],
+) -> Result<(), AllocError> {
     for (name, file, first, last) in WORKED {
+        let file = with_recuts(alloc, file, recut)?;
         assert_eq!(rt;
-            compare(rt, alloc, file, trees, workers),
+            compare(rt, alloc, file.as_str(), trees, workers),
             Ok((first, last)),
             "{name}"
         );
     }
+    Ok(())
 }
 
 #[test]
-fn worlds_of_few_trees_are_where_the_evaluation_is(rt: HostRuntime) {
-    expect_worked(&rt, rt.alloc(), &FEW, &WORKERS);
+fn worlds_of_few_trees_are_where_the_evaluation_is(rt: HostRuntime) -> Result<(), AllocError> {
+    expect_worked(&rt, rt.alloc(), None, &FEW, &WORKERS)
 }
 
 #[test]
-fn worlds_of_many_trees_are_where_the_evaluation_is(rt: HostRuntime) {
-    expect_worked(&rt, rt.alloc(), &MANY, &[0, 1]);
+fn worlds_of_many_trees_are_where_the_evaluation_is(rt: HostRuntime) -> Result<(), AllocError> {
+    expect_worked(&rt, rt.alloc(), None, &MANY, &[0, 1])
 }
 
 #[test]
-fn worlds_of_many_trees_with_many_helpers_are_where_the_evaluation_is(rt: HostRuntime) {
-    expect_worked(&rt, rt.alloc(), &MANY, &[16]);
+fn worlds_of_many_trees_with_many_helpers_are_where_the_evaluation_is(
+    rt: HostRuntime,
+) -> Result<(), AllocError> {
+    expect_worked(&rt, rt.alloc(), None, &MANY, &[16])
+}
+
+#[test]
+fn worlds_that_are_cut_anew_are_where_the_evaluation_is(rt: HostRuntime) -> Result<(), AllocError> {
+    expect_worked(&rt, rt.alloc(), Some(1), &[1, 3, 64], &[0])
+}
+
+#[test]
+fn worlds_of_the_second_version_are_where_the_evaluation_is(rt: HostRuntime) {
+    for (name, file, first, last) in OF_SECOND_VERSION {
+        let leaves = compare(&rt, rt.alloc(), file, &[1, 2, 7, 64], &[0]);
+        assert_eq!(rt; leaves, Ok((first, last)), "{name}");
+    }
 }
 
 // Worlds of so many trees and with so many helpers are refused as the evaluation is.
@@ -104,6 +135,20 @@ fn worlds_of_many_trees_are_refused_as_the_evaluation_is(rt: HostRuntime) {
     expect_refusals(&rt, rt.alloc(), &MANY, &[0, 1]);
 }
 
+// A refusal that comes after trees were cut anew.
+#[test]
+fn worlds_that_were_cut_anew_are_refused_as_the_evaluation_is(
+    rt: HostRuntime,
+) -> Result<(), AllocError> {
+    let alloc = rt.alloc();
+    for every in [1, 4] {
+        let file = with_recuts(alloc, OVERFLOWS_LATE, Some(every))?;
+        let found = compare(&rt, alloc, file.as_str(), &[2, 7], &[0]);
+        assert_eq!(rt; found, overflow(11, [0, 0, 0]));
+    }
+    Ok(())
+}
+
 // Files whose worlds are shown in the end alone.
 #[test]
 fn worlds_that_are_shown_last_are_where_the_evaluation_ends(
@@ -121,6 +166,16 @@ fn worlds_that_are_shown_last_are_where_the_evaluation_ends(
 #[test]
 fn a_wave_with_helpers_is_where_the_evaluation_ends(rt: HostRuntime) -> Result<(), AllocError> {
     compare_last(&rt, rt.alloc(), ADAPTIVE_WAVE, &[4], &[3])
+}
+
+// The same wave by trees that are cut anew as it goes on.
+#[test]
+fn a_wave_whose_trees_are_cut_anew_is_where_the_evaluation_ends(
+    rt: HostRuntime,
+) -> Result<(), AllocError> {
+    let alloc = rt.alloc();
+    let file = with_recuts(alloc, ADAPTIVE_WAVE, Some(7))?;
+    compare_last(&rt, alloc, file.as_str(), &[4], &[3])
 }
 
 // As many cells as there may be.

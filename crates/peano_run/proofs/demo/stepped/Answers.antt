@@ -6,7 +6,7 @@ returns-in-Ok g c =
     let demo = c.requires.demo in
     let led = c.requires.led in
     led_on demo.0 c.args.plan.now demo.1 c.args.trees c.args.step c.args.world led c.requires.more c.advance.new.self
-    (c.in-Ok.ensures.advanced led.grid led.field (own_world demo.0 c.args.plan.now demo.1 c.args.trees c.args.step c.args.world led c.requires.more)) c.in-Ok.ensures.solver c.in-Ok.ensures.keys
+    (c.in-Ok.ensures.advanced led.grid led.field (own_world demo.0 c.args.plan.now demo.1 c.args.trees c.args.step c.args.world led c.requires.more)) c.in-Ok.ensures.solver c.in-Ok.ensures.recut
 
 pub unreachable-requires : goal.unreachable-requires
 unreachable-requires g c =

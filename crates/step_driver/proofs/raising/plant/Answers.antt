@@ -9,9 +9,9 @@ exchange-requires-after_bounds g c κs within =
     let k = cuts_of c.args.keys.now in
     let stores = c.in_ok-raised.raised.stores.items in
     let notes = c.in_ok-raised.raised.notes.items in
-    trees_from_lists k Backward c.args.grid.now stores c.requires.grid (raised_lists k c.args.grid.now c.args.field.now stores notes c.requires.grid c.requires.field.1.leaves c.tale_of_notes_grows.ensures c.in_ok-raised.ensures)
+    trees_from_lists k Backward c.args.grid.now stores c.requires.grid (raised_lists k c.args.grid.now c.args.field.now c.args.step stores notes c.requires.grid c.requires.field.1.leaves c.in_ok-raised.ensures)
 
 pub returns : goal.returns
 returns g c =
     let k = cuts_of c.args.keys.now in
-    started k c.args.grid.now c.args.field.now c.in_ok-raised.raised.stores.items c.in_ok-raised.raised.notes.items c.requires.grid c.requires.field.1.leaves c.tale_of_notes_grows.ensures c.in_ok-raised.ensures c.in_ok-stores.stores.items c.in_ok-stores.ensures
+    started k c.args.grid.now c.args.field.now c.args.step c.in_ok-raised.raised.stores.items c.in_ok-raised.raised.notes.items c.requires.grid c.requires.field.1.leaves c.in_ok-raised.ensures c.in_ok-stores.stores.items c.in_ok-stores.ensures

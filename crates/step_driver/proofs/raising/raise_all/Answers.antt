@@ -19,8 +19,8 @@ loop-tree-preserved g c =
     let item = c.tree-item.result in
     let below : m < k.trees = below_trees given swept c.deref-tree-items.result.now m k.trees c.in_ok-swept.ensures c.in_ok-raise_each.ensures.count c.deref-tree-items.ensures.value c.loop-tree-test.true in
     let read = c.tree-item.is ∙ ap (λ xs. slice_index_or xs m item) c.deref-tree-items.ensures.value in
-    let raised = subst (IsRaisedWith k c.args.grid.now c.args.field.now m) (sym read) (raised_at k c.args.grid.now c.args.field.now given swept c.in_ok-raise_each.ensures c.in_ok-swept.ensures m item below) in
-    c.in_ok-push.ensures.items ∙ ap₂ (λ (xs : List Note) (x : Note). xs ++ x ∷ []) c.loop-tree.invariant raised.noted ∙ ap (λ n. by_trees n (note_raised (sizes_of k) 0 c.args.grid.now)) (next m)
+    let raised = subst (IsRaisedWith k c.args.grid.now c.args.field.now c.args.step m) (sym read) (raised_at k c.args.grid.now c.args.field.now c.args.step given swept c.in_ok-raise_each.ensures c.in_ok-swept.ensures m item below) in
+    c.in_ok-push.ensures.items ∙ ap₂ (λ (xs : List Note) (x : Note). xs ++ x ∷ []) c.loop-tree.invariant raised.noted ∙ ap (λ n. by_trees n (note_raised (sizes_of k) c.args.step c.args.grid.now)) (next m)
 
 pub returns : goal.returns
 returns g c =
@@ -28,5 +28,5 @@ returns g c =
     let given = c.in_ok-raise_each.field-0.items in
     let swept = c.in_ok-swept.swept.items in
     let whole : c.loop-tree.tree-index ≡ k.trees = all_trees given swept c.deref-tree-items.result.now c.loop-tree.tree-index k.trees c.in_ok-swept.ensures c.in_ok-raise_each.ensures.count c.deref-tree-items.ensures.value c.loop-tree-test.false c.loop-tree.auto.tree-index-end in
-    all_raised k c.args.grid.now c.args.field.now given swept c.in_ok-raise_each.ensures c.in_ok-swept.ensures c.in_ok-stores.stores.items c.loop-tree.notes.items c.in_ok-stores.ensures
-    (c.loop-tree.invariant ∙ ap (λ n. by_trees n (note_raised (sizes_of k) 0 c.args.grid.now)) whole)
+    all_raised k c.args.grid.now c.args.field.now c.args.step given swept c.in_ok-raise_each.ensures c.in_ok-swept.ensures c.in_ok-stores.stores.items c.loop-tree.notes.items c.in_ok-stores.ensures
+    (c.loop-tree.invariant ∙ ap (λ n. by_trees n (note_raised (sizes_of k) c.args.step c.args.grid.now)) whole)

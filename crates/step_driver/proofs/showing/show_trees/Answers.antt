@@ -3,12 +3,12 @@ use Rattle.curve_cuts.specs.Keys.{cuts_of}
 use Rattle.step_driver.specs.Showing.{AreRowsOf}
 use Rattle.step_driver.proofs.Advances.{written_back}
 use Rattle.step_driver.proofs.Began.{stand_on, on_err}
-use Rattle.step_driver.proofs.Rests.{all_rows, still_at, told}
+use Rattle.step_driver.proofs.Rests.{all_rows, gathers_no_raising, still_at, told}
 use Rattle.step_driver.proofs.showing.show_trees.Goals as goal
 
-pub show_all-requires-after_bounds : goal.show_all-requires-after_bounds
-show_all-requires-after_bounds g c κs within =
-    let h = c.requires in
+pub show_all-requires-clause-stores : goal.show_all-requires-clause-stores
+show_all-requires-clause-stores g c κs within =
+    let h = c.requires.at in
     let at = h.4 in
     (h.0, (at.dir, h.2, h.3, stand_on h.0 (cuts_of c.args.keys.now) c.args.stores.items c.args.notes.now.items h.1 h.2 h.3 at))
 
@@ -26,7 +26,7 @@ returns-clause-shown g c = λ parts cells g f at.
     record {
       step_is = c.in_ok-trees.ensures.step;
       rows = sym whole ∙ sorted;
-      traffic = told parts k g f c.args.step cells c.args.stores.items c.in_ok-trees.trees.stores.items c.args.notes.now.items c.show_all.new.notes.items c.in_ok-trees.trees.shown c.tale_of_notes_grows.ensures at shown;
-      at = still_at parts k g f c.args.step cells c.args.stores.items c.in_ok-trees.trees.stores.items c.args.notes.now.items c.show_all.new.notes.items c.in_ok-trees.trees.shown c.tale_of_notes_grows.ensures at shown;
+      traffic = told parts k g f c.args.step c.args.kind cells c.args.stores.items c.in_ok-trees.trees.stores.items c.args.notes.now.items c.show_all.new.notes.items c.in_ok-trees.trees.shown c.tale_of_notes_grows.ensures (gathers_no_raising c.args.kind c.requires.kind) at shown;
+      at = still_at parts k g f c.args.step c.args.kind cells c.args.stores.items c.in_ok-trees.trees.stores.items c.args.notes.now.items c.show_all.new.notes.items c.in_ok-trees.trees.shown c.tale_of_notes_grows.ensures (gathers_no_raising c.args.kind c.requires.kind) at shown;
       noted = shown.gathered.noted;
     }

@@ -4,8 +4,8 @@ use Rattle.curve_cuts.specs.Keys.{cuts_of}
 use Rattle.tree_automaton.specs.AtRest.{StandsFor}
 use Rattle.worked_sweeps.proofs.rows.show.Goals as goal
 
-pub show_tree-requires : goal.show_tree-requires
-show_tree-requires c =
+pub show_tree-requires-clause-store : goal.show_tree-requires-clause-store
+show_tree-requires-clause-store c =
     let k : Cuts = cuts_of c.args.keys.now in
     let s = c.args.store.now in
     let g = c.args._grid.now in

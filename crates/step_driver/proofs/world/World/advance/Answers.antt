@@ -1,51 +1,36 @@
-use Rattle.std.proofs.Common.{◌+◌, false, Vec, ap, sym, subst, ◌∙◌}
-use Rattle.peano_keys.specs.Grid.{Spacetree}
-use Rattle.peano_keys.specs.Field.{States}
-use Rattle.curve_cuts.specs.Cuts.{Cuts}
-use Rattle.curve_cuts.specs.Keys.{cuts_of}
+use Rattle.std.proofs.Common.{sym, subst}
+use Rattle.spacetree.specs.declared.fault.EvalFault.TheVariants.{NoMemory}
 use Rattle.step_sweeps.specs.Kernels.{Kernel}
-use Rattle.step_driver.specs.Advances.{Advanced, Stopped}
-use Rattle.step_driver.specs.Worlds.{Seen, IsAt, AreAt}
-use Rattle.step_driver.proofs.Advances.{advanced, stopped}
+use Rattle.step_driver.specs.Advances.{IsCutInTurn}
+use Rattle.step_driver.specs.Worlds.{IsAt}
+use Rattle.step_driver.proofs.Advances.{advanced, cut_short, refused_as}
 use Rattle.step_driver.proofs.world.World.advance.Goals as goal
 
-pub take_step-requires-clause-at : goal.take_step-requires-clause-at
-take_step-requires-clause-at g c κs within =
-    let w = c.self.inside in
-    let h = c.self.invariant.1 (ap (λ (x : Seen _). x.live) c.self.view_is ∙ c.requires.live) in
-    let read = ap (λ (v : Vec _ _). v.items) c.replace-stores.ensures.value in
-    (h.0, h.1, subst (λ s. AreAt (g.S.Solver.parts_of w.solver) (cuts_of w.keys) s w.forest.notes.items w.cells h.0 h.1) (sym read) h.2)
+pub returns-in_err-take-clause-advanced : goal.returns-in_err-take-clause-advanced
+returns-in_err-take-clause-advanced g c = λ grid f at.
+    let s = c.args.self.now.solver in
+    let kernel : Kernel = record { parts = g.S.Solver.parts_of s; updated = g.S.Solver.updated s; marked = g.S.Solver.marked s } in
+    refused_as kernel (g.S.Solver.adapting s) grid f c.args.self.now c.take.new.self c.from_residual.result _ c.in_err-take.field-0.0 (λ e h. h) c.from_residual.ensures.1 (c.in_err-take.ensures.taken grid f at)
 
-pub invariant_of-self : goal.invariant_of-self
-invariant_of-self g c = (
-  c.self.invariant.0,
-  λ live.
-      let w = c.self.inside in
-      let k : Cuts = cuts_of w.keys in
-      let h = c.self.invariant.1 live in
-      let read = ap (λ (v : Vec _ _). v.items) c.replace-stores.ensures.value in
-      let took = c.in-Ok.ensures h.0 h.1 (subst (λ s. AreAt (g.S.Solver.parts_of w.solver) k s w.forest.notes.items w.cells h.0 h.1) (sym read) h.2) in
-      (took.grid, took.field, took.at),
-)
+pub cut_in_turn-requires-clause-live : goal.cut_in_turn-requires-clause-live
+cut_in_turn-requires-clause-live g c κs within = c.in_ok-take.ensures.live
 
-pub returns-in-Ok-clause-advanced : goal.returns-in-Ok-clause-advanced
-returns-in-Ok-clause-advanced g c = subst (λ (x : Seen _). (grid : Spacetree) (f : States) → IsAt (g.S.Solver.parts_of x.solver) x grid f x.step → Advanced (record { parts = g.S.Solver.parts_of x.solver; updated = g.S.Solver.updated x.solver; marked = g.S.Solver.marked x.solver }) (g.S.Solver.adapting x.solver) grid f x (record { solver = c.self.inside.solver; keys = c.self.inside.keys; stores = c.in-Ok.stepped.stores.items; cells = c.in-Ok.stepped.cells; step = c.self.inside.step + 1; notes = c.take_step.new.notes.items; live = c.self.inside.live })) c.self.view_is
-    (λ grid f at.
-    let w = c.self.inside in
-    let kernel : Kernel = record { parts = g.S.Solver.parts_of w.solver; updated = g.S.Solver.updated w.solver; marked = g.S.Solver.marked w.solver } in
-    let k : Cuts = cuts_of w.keys in
-    let read = ap (λ (v : Vec _ _). v.items) c.replace-stores.ensures.value in
-    let took = c.in-Ok.ensures grid f (subst (λ s. AreAt kernel.parts k s w.forest.notes.items w.cells grid f) (sym read) at.trees) in
-    let seen : Seen _ = record { solver = w.solver; keys = w.keys; stores = w.forest.stores.items; cells = w.cells; step = w.step; notes = w.forest.notes.items; live = w.live } in
-    advanced kernel (g.S.Solver.adapting w.solver) grid f seen c.in-Ok.stepped.stores.items c.take_step.new.notes.items c.in-Ok.stepped.cells at took)
+pub returns-in_err-cut_in_turn-clause-advanced : goal.returns-in_err-cut_in_turn-clause-advanced
+returns-in_err-cut_in_turn-clause-advanced g c = λ grid f at.
+    let s = c.args.self.now.solver in
+    let kernel : Kernel = record { parts = g.S.Solver.parts_of s; updated = g.S.Solver.updated s; marked = g.S.Solver.marked s } in
+    let mid = c.take.new.self in
+    let t = c.in_ok-take.ensures.taken grid f at in
+    let here = subst (λ x. IsAt (g.S.Solver.parts_of x) mid t.grid t.field mid.step) (sym c.in_ok-take.ensures.solver) (subst (IsAt kernel.parts mid t.grid t.field) (sym t.at.step_is) t.at) in
+    refused_as kernel (g.S.Solver.adapting s) grid f c.args.self.now c.cut_in_turn.new.self c.from_residual-in_err-cut_in_turn.result _ NoMemory (λ e h. h) c.from_residual-in_err-cut_in_turn.ensures.1
+    (cut_short kernel (g.S.Solver.adapting s) grid f c.args.self.now mid c.cut_in_turn.new.self c.in_ok-take.ensures.recut t (c.in_err-cut_in_turn.ensures.cut t.grid t.field here))
 
-pub returns-in-Err-clause-advanced : goal.returns-in-Err-clause-advanced
-returns-in-Err-clause-advanced g c = subst (λ (x : Seen _). (grid : Spacetree) (f : States) → IsAt (g.S.Solver.parts_of x.solver) x grid f x.step → Stopped (record { parts = g.S.Solver.parts_of x.solver; updated = g.S.Solver.updated x.solver; marked = g.S.Solver.marked x.solver }) (g.S.Solver.adapting x.solver) grid f x (record { solver = c.self.inside.solver; keys = c.self.inside.keys; stores = c.replace-stores.new.dest.items; cells = c.self.inside.cells; step = c.self.inside.step; notes = c.take_step.new.notes.items; live = false }) c.in-Err.fault) c.self.view_is
-    (λ grid f at.
-    let w = c.self.inside in
-    let kernel : Kernel = record { parts = g.S.Solver.parts_of w.solver; updated = g.S.Solver.updated w.solver; marked = g.S.Solver.marked w.solver } in
-    let k : Cuts = cuts_of w.keys in
-    let read = ap (λ (v : Vec _ _). v.items) c.replace-stores.ensures.value in
-    let fails = c.in-Err.ensures grid f (subst (λ s. AreAt kernel.parts k s w.forest.notes.items w.cells grid f) (sym read) at.trees) in
-    let seen : Seen _ = record { solver = w.solver; keys = w.keys; stores = w.forest.stores.items; cells = w.cells; step = w.step; notes = w.forest.notes.items; live = w.live } in
-    stopped kernel (g.S.Solver.adapting w.solver) grid f seen c.replace-stores.new.dest.items c.take_step.new.notes.items c.in-Err.fault fails)
+pub returns-clause-advanced : goal.returns-clause-advanced
+returns-clause-advanced g c = λ grid f at.
+    let s = c.args.self.now.solver in
+    let kernel : Kernel = record { parts = g.S.Solver.parts_of s; updated = g.S.Solver.updated s; marked = g.S.Solver.marked s } in
+    let mid = c.take.new.self in
+    let t = c.in_ok-take.ensures.taken grid f at in
+    let here = subst (λ x. IsAt (g.S.Solver.parts_of x) mid t.grid t.field mid.step) (sym c.in_ok-take.ensures.solver) (subst (IsAt kernel.parts mid t.grid t.field) (sym t.at.step_is) t.at) in
+    advanced kernel (g.S.Solver.adapting s) grid f c.args.self.now mid c.cut_in_turn.new.self c.in_ok-take.ensures.recut t
+    (subst (λ x. IsCutInTurn (g.S.Solver.parts_of x) t.grid t.field mid c.cut_in_turn.new.self) c.in_ok-take.ensures.solver (c.in_ok-cut_in_turn.ensures.cut t.grid t.field here))
